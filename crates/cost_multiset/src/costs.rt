@@ -1,0 +1,60 @@
+ghost use Rattle.std.specs.Prelude.{◌≡◌};
+ghost use Rattle.cost_multiset.specs.CostLists.{IsDescending};
+
+use sqlite_items::Items;
+use std::marker::Model;
+use wsym_terms::Cost;
+
+/// So many equal costs in a row.
+#[derive(Clone, Copy, Debug, PartialEq, Eq)]
+pub struct Run {
+    /// The cost, in cycles.
+    pub value: Cost,
+    /// How often it stands in the list, at least once.
+    pub count: u64,
+}
+
+/// A list of costs that descends and goes on for ever: some runs, then one cost again and again. Contracts
+/// see its runs and its tail.
+#[derive(Debug, Drop)]
+pub struct Multi {
+    runs: Items<Run>,
+    tail: Cost,
+}
+
+impl Model for Multi {
+    ghost use Rattle.cost_multiset.specs.CostLists.{CostList, IsDescending};
+
+    ghost Value = { CostList };
+
+    ghost view = { λ m. record { runs = m.runs; tail = m.tail } };
+
+    ghost invariant = { λ m. IsDescending m.runs m.tail };
+}
+
+impl Multi {
+    /// The list of these runs with this tail. It takes no memory.
+    ///
+    /// The counts are at least 1 and add up to less than 2^63; the values descend strictly from run to run
+    /// and to the tail.
+    pub fn of(runs: Items<Run>, tail: Cost) -> Multi
+        requires { IsDescending runs tail }
+        ensures { result ≡ record { runs = runs; tail = tail } }
+    {
+        Multi { runs, tail }
+    }
+
+    /// The runs before the tail, in descending order.
+    pub fn runs(&self) -> &[Run]
+        ensures { result.now ≡ self.now.runs }
+    {
+        self.runs.as_slice()
+    }
+
+    /// What each place behind the runs costs.
+    pub fn tail(&self) -> Cost
+        ensures { result ≡ self.now.tail }
+    {
+        self.tail
+    }
+}

@@ -1,0 +1,29 @@
+-- The value of a loop's bound at values of the parameters.
+use Rattle.std.specs.Prelude.{ℕ, ℤ, pos, negsuc, ◌+ℤ◌, ◌*ℤ◌, List, [], ◌∷◌, Option, Some, None, slice_get, unwrap_or}
+use Rattle.std.specs.Int.{int_div_euclid}
+use Rattle.wsym_terms.specs.Extents.{Extent, Finite, Infinite, lesser}
+use Rattle.wsym_terms.specs.declared.bounds.Coef.{Coef}
+use Rattle.wsym_terms.specs.declared.bounds.Atom.{Atom}
+use Rattle.wsym_terms.specs.declared.bounds.Bound.{Bound}
+
+-- the factors times the values of their parameters, added up
+abbrev pub linear_sum : List Coef → List ℤ → ℤ
+linear_sum [] values = pos 0
+linear_sum (c ∷ cs) values = (c.factor *ℤ unwrap_or (slice_get values c.param) (pos 0)) +ℤ linear_sum cs values
+
+-- what is below 0 counts as 0
+abbrev pub at_least_zero : ℤ → ℕ
+at_least_zero (pos n) = n
+at_least_zero (negsuc n) = 0
+
+-- max(0, floor((a·p + b) / d) + 1)
+abbrev pub atom_value : List ℤ → Atom → ℕ
+atom_value values atom = at_least_zero (int_div_euclid (linear_sum atom.coefs values +ℤ atom.constant) atom.divisor +ℤ pos 1)
+
+-- the least value of the atoms; without atoms there is none
+abbrev pub least_atom : List ℤ → List Atom → Extent
+least_atom values [] = Infinite
+least_atom values (a ∷ atoms) = lesser (Finite (atom_value values a)) (least_atom values atoms)
+
+abbrev pub bound_value : Bound → List ℤ → Extent
+bound_value bound values = least_atom values bound.atoms

@@ -1,0 +1,70 @@
+ghost use Rattle.std.specs.Prelude.{◌≡◌, ◌<◌, ◌^◌};
+ghost use Rattle.wsym_terms.specs.Trees.{size_of, sizes_of};
+
+use sqlite_items::{Boxed, Items};
+
+/// A use of a line of the instruction cache.
+#[derive(Clone, Copy, Debug, PartialEq, Eq)]
+pub struct Use {
+    /// The line: the address divided by the bytes of a line.
+    pub line: u32,
+    /// The depth of the loops within one entry of which the line misses at most once. 0 is the whole run.
+    pub scope: u32,
+}
+
+/// The control-flow tree of a function.
+#[derive(Debug, Drop)]
+pub enum Tree {
+    /// A basic block: its number, what its instructions cost in cycles where no fetch misses, and the lines
+    /// that it uses.
+    Leaf {
+        block: u32,
+        base: u128,
+        uses: Items<Use>,
+    },
+    /// One after another.
+    Seq(Items<Tree>),
+    /// One of them.
+    Alt(Items<Tree>),
+    /// A loop, by its number from 1: what runs between an entry or a turn and the next turn, and what runs
+    /// between an entry or a turn and the leaving.
+    Loop {
+        id: u32,
+        body: Boxed<Tree>,
+        exit: Boxed<Tree>,
+    },
+}
+
+impl Tree {
+    /// The number of the tree's nodes and uses. It takes no memory.
+    #[cycle(sizes)]
+    pub fn size(&self) -> u64
+        requires { size_of self.now < 2 ^ 64 }
+        ensures { result ≡ size_of self.now }
+    {
+        match self {
+            Tree::Leaf {
+                block: _,
+                base: _,
+                uses,
+            } => 1 + uses.len() as u64,
+            Tree::Seq(members) => 1 + sizes(members.as_slice()),
+            Tree::Alt(choices) => 1 + sizes(choices.as_slice()),
+            Tree::Loop { id: _, body, exit } => 1 + body.get().size() + exit.get().size(),
+        }
+    }
+}
+
+/// The sum of the sizes of trees.
+#[cycle(sizes)]
+#[tactic(auto, using(std::proofs::lemmas::List::Sums::sum_by_more_le, std::proofs::lemmas::List::Sums::sum_by_more))]
+fn sizes(trees: &[Tree]) -> u64
+    requires { sizes_of trees.now < 2 ^ 64 }
+    ensures { result ≡ sizes_of trees.now }
+{
+    let mut total = 0;
+    for tree in trees {
+        total += tree.size();
+    }
+    total
+}
