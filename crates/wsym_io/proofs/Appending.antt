@@ -24,6 +24,6 @@ appended_take (Some bytes) n k text =
 pub told_next : (old now new : Option (List ℕ)) (text : List ℕ) (n k : ℕ) → now ≡ appended old (take n text) → new ≡ appended now (take k (take (length text - n) (drop n text))) → new ≡ appended old (take (n + k) text)
 told_next old now new text n k had took =
     took
-        ∙ ap (λ (l : List ℕ). appended now (take k l)) (rest_of text n)
-        ∙ ap (λ (o : Option (List ℕ)). appended o (take k (drop n text))) had
-        ∙ appended_take old n k text
+    ∙ ap (λ (l : List ℕ). appended now (take k l)) (rest_of text n)
+    ∙ ap (λ (o : Option (List ℕ)). appended o (take k (drop n text))) had
+    ∙ appended_take old n k text

@@ -1,3 +1,3 @@
 pub mod Io
 pub mod Files
-pub mod Drills
+pub mod Faulty

@@ -15,14 +15,17 @@
 //! ```
 #![tactic(auto)]
 
-mod drills;
+mod faulty;
 mod shelves;
 mod sinks;
 mod steady;
 mod system;
 
-pub use drills::{MemShelf, MemSink};
+pub use faulty::{MemShelf, MemSink};
 pub use shelves::{Shelf, ShelfFault, ShelfFile};
 pub use sinks::{Sink, SinkFault, write_all};
 pub use steady::{PlainShelf, PlainSink};
 pub use system::{FileShelf, StdoutSink};
+
+#[cfg(test)]
+mod tests;

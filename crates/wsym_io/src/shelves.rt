@@ -1,11 +1,14 @@
 //! Shelves: where a program reads its files.
 
-ghost use Rattle.std.specs.Prelude.{◌≡◌, ℕ, ◌+◌, ◌-◌, ◌^◌, ◌≤◌, min, true, false, List, [], Option, length, take, IfOk, IfSome, IfNone, IsErrOf};
+ghost use Rattle.std.specs.Prelude.{◌≡◌, ◌↔◌, ℕ, ◌+◌, ◌-◌, ◌^◌, ◌≤◌, min, true, false, List, [], Option, length, take, IfOk, IfSome, IfNone, IsErrOf};
 ghost use Rattle.wsym_io.specs.Io.{File, Rose, IfTold, file_bytes, has_file};
 ghost use Rattle.wsym_io.specs.Files.{files_of};
 ghost use Rattle.wsym_io.specs.declared.shelves.ShelfFault.TheVariants.{Memory};
+ghost use Rattle.std.specs.IoError.{error_kind};
+ghost use Rattle.std.specs.declared.io.ErrorKind.TheVariants.{OutOfMemory};
 
 use std::alloc::{AllocError, Global};
+use std::io;
 use thiserror::Error;
 
 /// Why a shelf gave no bytes.
@@ -27,8 +30,19 @@ impl From<AllocError> for ShelfFault {
     }
 }
 
+impl From<io::Error> for ShelfFault {
+    ghost from_gives = { λ error fault. (fault ≡ Memory) ↔ (error_kind error ≡ OutOfMemory) };
+
+    fn from(error: io::Error) -> ShelfFault {
+        match error.kind() {
+            io::ErrorKind::OutOfMemory => ShelfFault::Memory,
+            _ => ShelfFault::Failed,
+        }
+    }
+}
+
 /// A file in memory: its name, which may be any text, and its bytes.
-#[derive(Debug, Drop)]
+#[derive(Clone, Debug, PartialEq, Eq, Drop)]
 pub struct ShelfFile {
     pub name: String,
     pub bytes: Vec<u8>,

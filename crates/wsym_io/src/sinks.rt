@@ -1,10 +1,13 @@
 //! Sinks: where a program writes.
 
-ghost use Rattle.std.specs.Prelude.{◌≡◌, ℕ, ◌+◌, ◌-◌, ◌^◌, ◌<◌, ◌≤◌, min, List, Option, length, take, IfOk, OnOk, OnErr, IsErrOf};
+ghost use Rattle.std.specs.Prelude.{◌≡◌, ◌↔◌, ℕ, ◌+◌, ◌-◌, ◌^◌, ◌<◌, ◌≤◌, min, List, Option, length, take, IfOk, OnOk, OnErr, IsErrOf};
 ghost use Rattle.wsym_io.specs.Io.{Rose, appended, AppendsFront};
 ghost use Rattle.wsym_io.specs.declared.sinks.SinkFault.TheVariants.{Memory};
+ghost use Rattle.std.specs.IoError.{error_kind};
+ghost use Rattle.std.specs.declared.io.ErrorKind.TheVariants.{OutOfMemory};
 
 use std::alloc::AllocError;
+use std::io;
 use thiserror::Error;
 
 /// Why a sink took nothing.
@@ -23,6 +26,17 @@ impl From<AllocError> for SinkFault {
 
     fn from(_error: AllocError) -> SinkFault {
         SinkFault::Memory
+    }
+}
+
+impl From<io::Error> for SinkFault {
+    ghost from_gives = { λ error fault. (fault ≡ Memory) ↔ (error_kind error ≡ OutOfMemory) };
+
+    fn from(error: io::Error) -> SinkFault {
+        match error.kind() {
+            io::ErrorKind::OutOfMemory => SinkFault::Memory,
+            _ => SinkFault::Failed,
+        }
     }
 }
 

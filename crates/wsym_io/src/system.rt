@@ -9,31 +9,12 @@ use crate::shelves::{Shelf, ShelfFault};
 use crate::sinks::{Sink, SinkFault};
 use std::alloc::Global;
 use std::fs;
-use std::io;
-use std::io::{ErrorKind, Read};
+use std::io::Read;
 use std::marker::Model;
 use std::rt::Files;
 
 /// The bytes that one read asks for, at most.
 const BLOCK: usize = 65_536;
-
-impl From<io::Error> for ShelfFault {
-    fn from(error: io::Error) -> ShelfFault {
-        match error.kind() {
-            ErrorKind::OutOfMemory => ShelfFault::Memory,
-            _ => ShelfFault::Failed,
-        }
-    }
-}
-
-impl From<io::Error> for SinkFault {
-    fn from(error: io::Error) -> SinkFault {
-        match error.kind() {
-            ErrorKind::OutOfMemory => SinkFault::Memory,
-            _ => SinkFault::Failed,
-        }
-    }
-}
 
 /// The system's files, by their paths. It tells no content, and is seen as its count of faults.
 #[derive(Drop)]

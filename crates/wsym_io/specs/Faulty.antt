@@ -37,7 +37,7 @@ abbrev pub shelf_after : ShelfState → List ℕ → ShelfState
 shelf_after shelf name =
     record shelf {
       calls = next_call shelf.calls;
-      faults = if shelf_fails shelf name then raised shelf.faults else shelf.faults
+      faults = if shelf_fails shelf name then raised shelf.faults else shelf.faults;
     }
 
 -- whether the sink's next call fails
@@ -50,5 +50,5 @@ sink_after sink piece =
     record sink {
       written = sink.written ++ piece;
       calls = next_call sink.calls;
-      faults = if sink_fails sink then raised sink.faults else sink.faults
+      faults = if sink_fails sink then raised sink.faults else sink.faults;
     }

@@ -3,7 +3,7 @@
 ghost use Rattle.std.specs.Prelude.{◌≡◌, ℕ, ◌+◌, ◌-◌, ◌^◌, ◌<◌, ◌≤◌, min, Some, IsTrue, ◌↔◌, List, [], ◌++◌, length, take, IfOk, OnErr, IsErrOf};
 ghost use Rattle.wsym_io.specs.Io.{file_bytes, Rose};
 ghost use Rattle.wsym_io.specs.Files.{files_of};
-ghost use Rattle.wsym_io.specs.Drills.{is_numbered, shelf_fails, shelf_after, sink_fails, sink_after};
+ghost use Rattle.wsym_io.specs.Faulty.{is_numbered, shelf_fails, shelf_after, sink_fails, sink_after};
 
 use crate::shelves::{Shelf, ShelfFault, ShelfFile, first_bytes, first_named};
 use crate::sinks::{Sink, SinkFault};
@@ -22,7 +22,7 @@ fn is_failing(failing: &[u64], call: u128) -> bool
 ///
 /// It is seen as the record of its files, the numbers of the calls that fail, the calls so far and its
 /// faults. It has one count of faults for all names.
-#[derive(Drop)]
+#[derive(Debug, Drop)]
 pub struct MemShelf {
     files: Vec<ShelfFile>,
     failing: Vec<u64>,
@@ -33,15 +33,15 @@ pub struct MemShelf {
 
 impl Model for MemShelf {
     ghost use Rattle.wsym_io.specs.Files.{files_of};
-    ghost use Rattle.wsym_io.specs.Drills.{ShelfState};
+    ghost use Rattle.wsym_io.specs.Faulty.{ShelfState};
 
     ghost Value = { ShelfState };
 
     ghost view = { λ shelf. record {
-        files = files_of shelf.files.items;
-        failing = shelf.failing.items;
-        calls = shelf.calls;
-        faults = shelf.faults
+      files = files_of shelf.files.items;
+      failing = shelf.failing.items;
+      calls = shelf.calls;
+      faults = shelf.faults;
     } };
 }
 
@@ -93,7 +93,7 @@ impl Shelf for MemShelf {
 ///
 /// It is seen as the record of the bytes that it took, the most bytes that a call takes, the numbers of
 /// the calls that fail, the calls so far and its faults.
-#[derive(Drop)]
+#[derive(Debug, Drop)]
 pub struct MemSink {
     bytes: Vec<u8>,
     most: usize,
@@ -105,16 +105,16 @@ pub struct MemSink {
 
 impl Model for MemSink {
     ghost use Rattle.std.specs.Prelude.{◌<◌};
-    ghost use Rattle.wsym_io.specs.Drills.{SinkState};
+    ghost use Rattle.wsym_io.specs.Faulty.{SinkState};
 
     ghost Value = { SinkState };
 
     ghost view = { λ sink. record {
-        written = sink.bytes.items;
-        most = sink.most;
-        failing = sink.failing.items;
-        calls = sink.calls;
-        faults = sink.faults
+      written = sink.bytes.items;
+      most = sink.most;
+      failing = sink.failing.items;
+      calls = sink.calls;
+      faults = sink.faults;
     } };
 
     ghost invariant = { λ sink. 0 < sink.most };
