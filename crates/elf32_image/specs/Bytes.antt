@@ -1,0 +1,86 @@
+-- What an image holds at an address.
+-- System V ABI, chapter 5, 'Program Header': the bytes of a segment beyond the file's are zeros, and
+-- PF_X and PF_W allow to execute and to write it. Words are of four bytes, least significant first.
+use Rattle.std.specs.Prelude.{ℕ, ◌+◌, ◌*◌, ◌-◌, ◌/◌, ◌%◌, ◌==◌, ◌&&◌, Bool, false, if◌then◌else◌, nat_le, nat_lt, slice_get, unwrap_or, Option, Some, None}
+use Rattle.std.specs.List.{find}
+use Rattle.elf32_image.specs.Parts.{Segment, ImageValue}
+use Rattle.elf32_image.specs.declared.image.Loaded.{Loaded}
+use Rattle.elf32_image.specs.declared.image.Loaded.TheVariants.{No, ReadOnly, Writable}
+
+abbrev pub is_executable : Segment → Bool
+is_executable segment = segment.flags % 2 == 1
+
+abbrev pub is_writable : Segment → Bool
+is_writable segment = segment.flags / 2 % 2 == 1
+
+-- the address is one of the segment's
+abbrev pub covers : ℕ → Segment → Bool
+covers address segment = nat_le segment.address address && nat_lt address (segment.address + segment.size)
+
+-- the segment that holds the address, the first one where two do
+abbrev pub holder : ImageValue → ℕ → Option Segment
+holder image address = find (covers address) image.segments
+
+-- the byte that a segment holds at one of its addresses
+abbrev pub byte_of : Segment → ℕ → ℕ
+byte_of segment address = unwrap_or (slice_get segment.bytes (address - segment.address)) 0
+
+abbrev pub loaded_in : Option Segment → ℕ → Loaded
+loaded_in None address = No
+loaded_in (Some segment) address =
+    if is_writable segment then Writable (byte_of segment address) else ReadOnly (byte_of segment address)
+
+-- what the image holds at the address
+abbrev pub loaded : ImageValue → ℕ → Loaded
+loaded image address = loaded_in (holder image address) address
+
+abbrev pub loaded_byte : Loaded → Option ℕ
+loaded_byte No = None
+loaded_byte (ReadOnly byte) = Some byte
+loaded_byte (Writable byte) = Some byte
+
+abbrev pub constant_byte : Loaded → Option ℕ
+constant_byte No = None
+constant_byte (ReadOnly byte) = Some byte
+constant_byte (Writable byte) = None
+
+-- the byte at the address
+abbrev pub byte_at : ImageValue → ℕ → Option ℕ
+byte_at image address = loaded_byte (loaded image address)
+
+-- the byte at the address, where no program can write it
+abbrev pub constant_byte_at : ImageValue → ℕ → Option ℕ
+constant_byte_at image address = constant_byte (loaded image address)
+
+-- the word of four bytes, where each is there
+abbrev pub word_of : Option ℕ → Option ℕ → Option ℕ → Option ℕ → Option ℕ
+word_of (Some b0) (Some b1) (Some b2) (Some b3) = Some (b0 + 256 * b1 + 65536 * b2 + 16777216 * b3)
+word_of _ _ _ _ = None
+
+-- the word at an address that is a multiple of 4, of bytes that `byte` gives
+abbrev pub word_by : (ℕ → Option ℕ) → ℕ → Option ℕ
+word_by byte address =
+    if address % 4 == 0
+    then word_of (byte address) (byte (address + 1)) (byte (address + 2)) (byte (address + 3))
+    else None
+
+abbrev pub word_at : ImageValue → ℕ → Option ℕ
+word_at image address = word_by (byte_at image) address
+
+abbrev pub constant_at : ImageValue → ℕ → Option ℕ
+constant_at image address = word_by (constant_byte_at image) address
+
+abbrev pub executable_in : Option Segment → Bool
+executable_in None = false
+executable_in (Some segment) = is_executable segment
+
+-- the byte at the address is loaded and may be executed
+abbrev pub is_executable_at : ImageValue → ℕ → Bool
+is_executable_at image address = executable_in (holder image address)
+
+-- the four bytes of an instruction stand at the address
+abbrev pub is_code : ImageValue → ℕ → Bool
+is_code image address =
+    address % 4 == 0
+    && is_executable_at image address && is_executable_at image (address + 1)
+    && is_executable_at image (address + 2) && is_executable_at image (address + 3)

@@ -1,0 +1,25 @@
+//! Reads the image of an ELF32 executable for ARM: the segments that a loader puts into memory.
+//!
+//! ```rust
+//! use elf32_image::{Loaded, read_image};
+//!
+//! let image = read_image(rt.alloc(), bytes)?;
+//! if image.is_code(0x8000) {
+//!     let first = image.word_at(0x8000);
+//! }
+//! assert_eq!(rt; image.loaded(0), Loaded::No);
+//! ```
+//!
+//! The format is that of the System V ABI, chapters 4 and 5. Addresses, offsets and sizes are in bytes,
+//! and a word has four bytes, the least significant first.
+#![tactic(auto)]
+
+mod format;
+mod image;
+mod reading;
+mod refusal;
+
+pub use format::FileHeader;
+pub use image::{Image, Loaded};
+pub use reading::read_image;
+pub use refusal::ElfRefusal;
