@@ -1,7 +1,8 @@
 -- The file header of an ELF32 executable for ARM.
 -- System V ABI, chapter 4, 'ELF Header' and 'ELF Identification'; the machine's number is that of
 -- 'ELF for the Arm Architecture'.
-use Rattle.std.specs.Prelude.{ℕ, ◌==◌, ◌&&◌, ◌||◌, Bool, if◌then◌else◌, nat_le, List, length, Option, Some, None}
+use Rattle.std.specs.Prelude.{ℕ, ◌==◌, ◌&&◌, ◌||◌, Bool, if◌then◌else◌, nat_eq, nat_le, List, [], ◌∷◌, length, Option, Some, None}
+use Rattle.std.specs.List.{starts_with}
 use Rattle.elf32_image.specs.Fields.{byte_field, half_field, word_field}
 use Rattle.elf32_image.specs.declared.format.FileHeader.{FileHeader}
 
@@ -33,8 +34,7 @@ e_shnum bytes = half_field bytes 48
 
 -- the bytes begin with the magic number 7F 'E' 'L' 'F'
 abbrev pub has_magic : List ℕ → Bool
-has_magic bytes =
-    byte_field bytes 0 == 0x7f && byte_field bytes 1 == 0x45 && byte_field bytes 2 == 0x4c && byte_field bytes 3 == 0x46
+has_magic bytes = starts_with nat_eq bytes (0x7f ∷ 0x45 ∷ 0x4c ∷ 0x46 ∷ [])
 
 -- objects of 32 bits (ELFCLASS32), least significant byte first (ELFDATA2LSB), version 1 (EV_CURRENT)
 abbrev pub is_identified : List ℕ → Bool

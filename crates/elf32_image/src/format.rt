@@ -159,10 +159,7 @@ fn has_accepted_identification(bytes: &[u8]) -> bool
     requires { 52 ≤ length bytes.now }
     ensures { result ≡ is_identified bytes.now }
 {
-    bytes[0] == ELFMAG[0]
-        && bytes[1] == ELFMAG[1]
-        && bytes[2] == ELFMAG[2]
-        && bytes[3] == ELFMAG[3]
+    bytes.starts_with(&ELFMAG)
         && bytes[EI_CLASS] == ELFCLASS32
         && bytes[EI_DATA] == ELFDATA2LSB
         && bytes[EI_VERSION] == EV_CURRENT

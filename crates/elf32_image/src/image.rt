@@ -100,7 +100,7 @@ impl Loaded {
 /// hold one address, the first of them answers.
 #[derive(Drop)]
 pub struct Image {
-    pub(crate) segments: Vec<LoadedSegment>,
+    segments: Vec<LoadedSegment>,
 }
 
 impl Model for Image {
@@ -112,6 +112,13 @@ impl Model for Image {
 }
 
 impl Image {
+    // The image of these segments.
+    pub(crate) fn from_segments(segments: Vec<LoadedSegment>) -> Image
+        ensures { result.segments ≡ segments.items }
+    {
+        Image { segments }
+    }
+
     /// Whether the four bytes of an instruction stand at the address: it is a multiple of 4, and each
     /// of its four bytes is loaded in a segment that may be executed.
     pub fn is_code(&self, address: u32) -> bool

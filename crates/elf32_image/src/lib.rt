@@ -18,6 +18,8 @@ mod format;
 mod image;
 mod reading;
 mod refusal;
+#[cfg(test)]
+mod tests;
 
 pub use format::FileHeader;
 pub use image::{Image, Loaded};

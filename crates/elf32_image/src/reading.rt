@@ -26,9 +26,10 @@ const MEMORY_SIZE: u64 = 1 << 32;
 ///   in memory, or it passes the end of the 32-bit memory.
 /// - `Memory`, in place of any other answer, where memory ran out.
 pub fn read_image(alloc: Global, bytes: &[u8]) -> Result<Image, ElfRefusal>
+    ensures exact { result ≢ Err ElfRefusal.Memory → result ≡ image_of bytes.now }
     ensures ok { IfOk result (λ image. image_of bytes.now ≡ Ok image) }
     ensures not_elf { IsErrOf result ElfRefusal.NotElf32Arm → header_of bytes.now ≡ None }
-    ensures refused { IfErr result (λ refusal. refusal ≢ ElfRefusal.Memory → image_of bytes.now ≡ Err refusal) }
+    ensures truncated { IsErrOf result ElfRefusal.Truncated → image_of bytes.now ≡ Err ElfRefusal.Truncated }
 {
     let Some(header) = FileHeader::read(bytes) else {
         return Err(ElfRefusal::NotElf32Arm);
@@ -38,7 +39,7 @@ pub fn read_image(alloc: Global, bytes: &[u8]) -> Result<Image, ElfRefusal>
     }
     let table = from_offset(bytes, header.program_offset as usize);
     let segments = read_segments(alloc, bytes, header.program_count, table)?;
-    Ok(Image { segments })
+    Ok(Image::from_segments(segments))
 }
 
 // Whether the program header table is empty or ends within a file of this size.

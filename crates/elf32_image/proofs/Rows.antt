@@ -1,0 +1,68 @@
+-- The definitions, computed on an executable of 92 bytes: a file header, one program header, and two
+-- instructions that are loaded at 0x8000.
+use Rattle.std.proofs.Common.{◌≡◌, ℕ, true, false, List, [], ◌∷◌, ◌++◌, take, Some, Ok, Err, refl}
+use Rattle.elf32_image.specs.Bytes.{is_code, word_at, constant_at, loaded}
+use Rattle.elf32_image.specs.Header.{header_of}
+use Rattle.elf32_image.specs.Parts.{ImageValue}
+use Rattle.elf32_image.specs.Segments.{image_of}
+use Rattle.elf32_image.specs.declared.image.Loaded.TheVariants.{No, ReadOnly}
+use Rattle.elf32_image.specs.declared.refusal.ElfRefusal.TheVariants.{NotElf32Arm, Truncated}
+
+abbrev file_header : List ℕ
+file_header =
+    0x7f ∷ 0x45 ∷ 0x4c ∷ 0x46 ∷ 0x01 ∷ 0x01 ∷ 0x01 ∷ 0x00 ∷ 0x00 ∷ 0x00 ∷ 0x00 ∷ 0x00 ∷ 0x00 ∷ 0x00 ∷ 0x00 ∷ 0x00
+    ∷ 0x02 ∷ 0x00 ∷ 0x28 ∷ 0x00 ∷ 0x01 ∷ 0x00 ∷ 0x00 ∷ 0x00 ∷ 0x00 ∷ 0x80 ∷ 0x00 ∷ 0x00 ∷ 0x34 ∷ 0x00 ∷ 0x00 ∷ 0x00
+    ∷ 0x00 ∷ 0x00 ∷ 0x00 ∷ 0x00 ∷ 0x00 ∷ 0x00 ∷ 0x00 ∷ 0x00 ∷ 0x34 ∷ 0x00 ∷ 0x20 ∷ 0x00 ∷ 0x01 ∷ 0x00 ∷ 0x00 ∷ 0x00 ∷ 0x00 ∷ 0x00 ∷ 0x00 ∷ 0x00 ∷ []
+
+abbrev program_table : List ℕ
+program_table =
+    0x01 ∷ 0x00 ∷ 0x00 ∷ 0x00 ∷ 0x54 ∷ 0x00 ∷ 0x00 ∷ 0x00 ∷ 0x00 ∷ 0x80 ∷ 0x00 ∷ 0x00 ∷ 0x00 ∷ 0x80 ∷ 0x00 ∷ 0x00
+    ∷ 0x08 ∷ 0x00 ∷ 0x00 ∷ 0x00 ∷ 0x08 ∷ 0x00 ∷ 0x00 ∷ 0x00 ∷ 0x05 ∷ 0x00 ∷ 0x00 ∷ 0x00 ∷ 0x04 ∷ 0x00 ∷ 0x00 ∷ 0x00 ∷ []
+
+abbrev instructions : List ℕ
+instructions = 0x01 ∷ 0x00 ∷ 0xa0 ∷ 0xe3 ∷ 0x1e ∷ 0xff ∷ 0x2f ∷ 0xe1 ∷ []
+
+abbrev file : List ℕ
+file = file_header ++ program_table ++ instructions
+
+abbrev image : ImageValue
+image = record { segments = record { address = 0x8000; bytes = instructions; size = 8; flags = 5 } ∷ [] }
+
+pub header : header_of file ≡ Some (record { program_offset = 52; program_count = 1; section_offset = 0; section_count = 0 })
+header = refl
+
+pub whole : image_of file ≡ Ok image
+whole = refl
+
+-- a byte of the file header is missing
+pub short_header : image_of (take 51 file) ≡ Err NotElf32Arm
+short_header = refl
+
+-- the table of program headers is missing
+pub no_table : image_of (take 52 file) ≡ Err Truncated
+no_table = refl
+
+-- a byte of the segment is missing
+pub short_segment : image_of (take 91 file) ≡ Err Truncated
+short_segment = refl
+
+pub code : is_code image 0x8004 ≡ true
+code = refl
+
+pub no_code : is_code image 0x8002 ≡ false
+no_code = refl
+
+pub code_ends : is_code image 0x8008 ≡ false
+code_ends = refl
+
+pub word : word_at image 0x8004 ≡ Some 0xe12fff1e
+word = refl
+
+pub constant : constant_at image 0x8000 ≡ Some 0xe3a00001
+constant = refl
+
+pub last_byte : loaded image 0x8007 ≡ ReadOnly 0xe1
+last_byte = refl
+
+pub behind : loaded image 0x8008 ≡ No
+behind = refl
