@@ -2,7 +2,7 @@
 
 ghost use Rattle.std.specs.Prelude.{◌≡◌, IfSome, IsTrue, option_copied};
 ghost use Rattle.elf32_image.specs.Parts.{ImageValue, Segment};
-ghost use Rattle.elf32_image.specs.Bytes.{byte_at, byte_of, constant_at, constant_byte, constant_byte_at, covers, executable_in, holder, is_code, is_executable, is_executable_at, is_writable, loaded, loaded_byte, loaded_in, word_at};
+ghost use Rattle.elf32_image.specs.Bytes.{byte_at, byte_of, constant_at, constant_byte, constant_byte_at, covers, executable_in, holder, is_code, is_executable, is_executable_at, is_writable, loaded, loaded_byte, loaded_in, word_at, word_of};
 
 use crate::format::{PF_W, PF_X};
 use std::marker::Model;
@@ -139,12 +139,12 @@ impl Image {
         if address % 4 != 0 {
             return None;
         }
-        Some(u32::from_le_bytes([
-            self.loaded(address).byte()?,
-            self.loaded(address + 1).byte()?,
-            self.loaded(address + 2).byte()?,
-            self.loaded(address + 3).byte()?,
-        ]))
+        word_of_bytes(
+            self.loaded(address).byte(),
+            self.loaded(address + 1).byte(),
+            self.loaded(address + 2).byte(),
+            self.loaded(address + 3).byte(),
+        )
     }
 
     /// The word at the address where nothing can write it: as `word_at`, and `None` also where one of
@@ -155,12 +155,12 @@ impl Image {
         if address % 4 != 0 {
             return None;
         }
-        Some(u32::from_le_bytes([
-            self.loaded(address).constant_byte()?,
-            self.loaded(address + 1).constant_byte()?,
-            self.loaded(address + 2).constant_byte()?,
-            self.loaded(address + 3).constant_byte()?,
-        ]))
+        word_of_bytes(
+            self.loaded(address).constant_byte(),
+            self.loaded(address + 1).constant_byte(),
+            self.loaded(address + 2).constant_byte(),
+            self.loaded(address + 3).constant_byte(),
+        )
     }
 
     /// What the image holds at the address.
@@ -195,4 +195,16 @@ impl Image {
         self.holder(address)
             .is_some_and(|segment| segment.is_executable())
     }
+}
+
+// The word of four bytes, the least significant first, where each is there.
+fn word_of_bytes(
+    first: Option<u8>,
+    second: Option<u8>,
+    third: Option<u8>,
+    fourth: Option<u8>,
+) -> Option<u32>
+    ensures { result ≡ word_of first second third fourth }
+{
+    Some(u32::from_le_bytes([first?, second?, third?, fourth?]))
 }
