@@ -1,0 +1,5 @@
+pub mod Classes
+pub mod Conditions
+pub mod Decoding
+pub mod Fields
+pub mod Writes

@@ -1,0 +1,334 @@
+//! The decoder. A word goes by its bits 27:25 to the few lines of the table that can fit it, each of them a
+//! function of its own.
+
+ghost use Rattle.std.specs.Prelude.{◌≡◌, true};
+ghost use Rattle.arm_isa.specs.Decoding.{branch_op, compute_op, compute_refused, decoding, exchange_op, exchange_refused, first_fit, half_op, half_refused, index_field, index_refused, long_op, long_refused, many_op, many_refused, multiply_op, multiply_refused, operand_field, shift_field, shift_refused, table, unless, word_op, word_refused};
+ghost use Rattle.arm_isa.specs.Fields.{field, flag};
+
+use crate::fields::{is_set, register};
+use crate::instruction::{HalfKind, Index, Insn, Offset, Op, Operand, Shift};
+
+/// The number of pc, which most fields may not name.
+const PC: u8 = 15;
+
+/// Decodes a word. `None` exactly where the table of encodings has no line that fits, or where the first
+/// line that fits refuses the word (`docs/DECODING.md` has the table in words).
+pub fn decode(word: u32) -> Option<Insn>
+    ensures { result ≡ decoding word }
+{
+    let cond = register(word, 28);
+    if cond == 15 {
+        return None;
+    }
+    match operation(word) {
+        Some(op) => Some(Insn { cond, op }),
+        None => None,
+    }
+}
+
+/// What a word says beside its condition.
+fn operation(word: u32) -> Option<Op>
+    ensures { result ≡ first_fit table word }
+{
+    match (word >> 25) % 8 {
+        0 => register_form(word),
+        1 => compute(word),
+        2 => word_transfer(word),
+        3 => {
+            if is_set(word, 4) {
+                None
+            } else {
+                word_transfer(word)
+            }
+        }
+        4 => many(word),
+        5 => Some(branch(word)),
+        _ => None,
+    }
+}
+
+/// A word whose bits 27:25 are 000.
+fn register_form(word: u32) -> Option<Op>
+    requires { field word 25 3 ≡ 0 }
+    ensures { result ≡ first_fit table word }
+{
+    if (word >> 4) % (1 << 24) == 0x12FFF1 {
+        exchange(word)
+    } else if is_set(word, 7) && is_set(word, 4) {
+        extension(word)
+    } else {
+        compute(word)
+    }
+}
+
+/// A word whose bits 27:25 are 000 and whose bits 7 and 4 are 1.
+fn extension(word: u32) -> Option<Op>
+    requires class { field word 25 3 ≡ 0 }
+    requires upper { flag word 7 ≡ true }
+    requires lower { flag word 4 ≡ true }
+    ensures { result ≡ first_fit table word }
+{
+    if (word >> 5) % 4 != 0 {
+        half(word)
+    } else {
+        match (word >> 22) % 8 {
+            0 => multiply(word),
+            2 | 3 => long(word),
+            _ => None,
+        }
+    }
+}
+
+fn exchange(word: u32) -> Option<Op>
+    ensures { result ≡ unless exchange_refused exchange_op word }
+{
+    let rm = register(word, 0);
+    if rm == PC {
+        None
+    } else {
+        Some(Op::Exchange { rm })
+    }
+}
+
+fn multiply(word: u32) -> Option<Op>
+    ensures { result ≡ unless multiply_refused multiply_op word }
+{
+    let add = is_set(word, 21);
+    let (rd, rn) = (register(word, 16), register(word, 12));
+    let (rs, rm) = (register(word, 8), register(word, 0));
+    if rd == PC || rn == PC || rs == PC || rm == PC || !add && rn != 0 {
+        return None;
+    }
+    Some(Op::Multiply {
+        add,
+        flags: is_set(word, 20),
+        rd,
+        rn,
+        rs,
+        rm,
+    })
+}
+
+fn long(word: u32) -> Option<Op>
+    ensures { result ≡ unless long_refused long_op word }
+{
+    let (hi, lo) = (register(word, 16), register(word, 12));
+    let (rs, rm) = (register(word, 8), register(word, 0));
+    if hi == PC || lo == PC || rs == PC || rm == PC || hi == lo {
+        return None;
+    }
+    Some(Op::Long {
+        signed: is_set(word, 22),
+        add: is_set(word, 21),
+        flags: is_set(word, 20),
+        hi,
+        lo,
+        rs,
+        rm,
+    })
+}
+
+fn half(word: u32) -> Option<Op>
+    ensures { result ≡ unless half_refused half_op word }
+{
+    let load = is_set(word, 20);
+    let by_register = !is_set(word, 22);
+    let (rd, rm) = (register(word, 12), register(word, 0));
+    let upper = register(word, 8);
+    let moved = (word >> 5) % 4;
+    if !load && moved != 1
+        || rd == PC
+        || by_register && upper != 0
+        || is_index_refused(word, by_register)
+    {
+        return None;
+    }
+    let kind = match moved {
+        1 => HalfKind::Half,
+        2 => HalfKind::SignedByte,
+        _ => HalfKind::SignedHalf,
+    };
+    let offset = if by_register {
+        Offset::Shifted {
+            rm,
+            shift: Shift::Lsl(0),
+        }
+    } else {
+        Offset::Value(16 * u32::from(upper) + u32::from(rm))
+    };
+    Some(Op::Half {
+        load,
+        kind,
+        index: index_of(word),
+        up: is_set(word, 23),
+        rn: register(word, 16),
+        rd,
+        offset,
+    })
+}
+
+fn compute(word: u32) -> Option<Op>
+    ensures { result ≡ unless compute_refused compute_op word }
+{
+    let code = register(word, 21);
+    let flags = is_set(word, 20);
+    let (rn, rd) = (register(word, 16), register(word, 12));
+    let is_test = (8..=11).contains(&code);
+    let is_move = code == 13 || code == 15;
+    if is_test && !flags
+        || is_test && rd != 0
+        || is_move && rn != 0
+        || !is_test && flags && rd == PC
+        || is_shift_refused(word)
+    {
+        return None;
+    }
+    Some(Op::Compute {
+        code,
+        flags,
+        rn,
+        rd,
+        operand: operand_of(word),
+    })
+}
+
+/// Whether a shift by a register stands beside r15.
+fn is_shift_refused(word: u32) -> bool
+    ensures { result ≡ shift_refused word }
+{
+    !is_set(word, 25)
+        && is_set(word, 4)
+        && (register(word, 16) == PC
+            || register(word, 12) == PC
+            || register(word, 8) == PC
+            || register(word, 0) == PC)
+}
+
+fn operand_of(word: u32) -> Operand
+    ensures { result ≡ operand_field word }
+{
+    let rm = register(word, 0);
+    if is_set(word, 25) {
+        let turns = 2 * ((word >> 8) % 16);
+        Operand::Value {
+            value: (word % 256).rotate_right(turns),
+            turned: turns != 0,
+        }
+    } else if is_set(word, 4) {
+        Operand::ByRegister {
+            rm,
+            kind: ((word >> 5) % 4) as u8,
+            rs: register(word, 8),
+        }
+    } else {
+        Operand::Shifted {
+            rm,
+            shift: shift_of(word),
+        }
+    }
+}
+
+/// A shift by a constant: an amount of 0 stands for 32 places to the right, and at ROR for RRX.
+fn shift_of(word: u32) -> Shift
+    ensures { result ≡ shift_field word }
+{
+    let amount = ((word >> 7) % 32) as u8;
+    let right = if amount == 0 { 32 } else { amount };
+    match (word >> 5) % 4 {
+        0 => Shift::Lsl(amount),
+        1 => Shift::Lsr(right),
+        2 => Shift::Asr(right),
+        _ if amount == 0 => Shift::Rrx,
+        _ => Shift::Ror(amount),
+    }
+}
+
+fn word_transfer(word: u32) -> Option<Op>
+    ensures { result ≡ unless word_refused word_op word }
+{
+    let (load, byte) = (is_set(word, 20), is_set(word, 22));
+    let by_register = is_set(word, 25);
+    let rd = register(word, 12);
+    if rd == PC && (!load || byte) || is_index_refused(word, by_register) {
+        return None;
+    }
+    let offset = if by_register {
+        Offset::Shifted {
+            rm: register(word, 0),
+            shift: shift_of(word),
+        }
+    } else {
+        Offset::Value(word % 4096)
+    };
+    Some(Op::Word {
+        load,
+        byte,
+        index: index_of(word),
+        up: is_set(word, 23),
+        rn: register(word, 16),
+        rd,
+        offset,
+    })
+}
+
+fn index_of(word: u32) -> Index
+    ensures { result ≡ index_field word }
+{
+    if !is_set(word, 24) {
+        Index::After
+    } else if is_set(word, 21) {
+        Index::BeforeBack
+    } else {
+        Index::Before
+    }
+}
+
+/// Whether the way of addressing rules the word out, its offset being the register in bits 3:0 or not.
+fn is_index_refused(word: u32, by_register: bool) -> bool
+    ensures { result ≡ index_refused word by_register }
+{
+    let (before, write) = (is_set(word, 24), is_set(word, 21));
+    let (rn, rm) = (register(word, 16), register(word, 0));
+    !before && write
+        || by_register && rm == PC
+        || (!before || write) && (rn == PC || rn == register(word, 12) || by_register && rn == rm)
+}
+
+fn many(word: u32) -> Option<Op>
+    ensures { result ≡ unless many_refused many_op word }
+{
+    let (load, back) = (is_set(word, 20), is_set(word, 21));
+    let rn = register(word, 16);
+    let list = (word % (1 << 16)) as u16;
+    if is_set(word, 22)
+        || list == 0
+        || !load && is_set(word, 15)
+        || rn == PC
+        || back && is_set(word, u32::from(rn))
+    {
+        return None;
+    }
+    Some(Op::Many {
+        load,
+        before: is_set(word, 24),
+        up: is_set(word, 23),
+        back,
+        rn,
+        list,
+    })
+}
+
+fn branch(word: u32) -> Op
+    ensures { result ≡ branch_op word }
+{
+    let offset = (word % (1 << 24)) as i32;
+    let words = if offset < 1 << 23 {
+        offset
+    } else {
+        offset - (1 << 24)
+    };
+    Op::Branch {
+        link: is_set(word, 24),
+        words,
+    }
+}
