@@ -1,7 +1,6 @@
 -- The table at words whose meaning is known: it computes, and gives what an assembler would say.
-use Rattle.std.proofs.Common.{◌≡◌, refl, true, false, Some, None}
+use Rattle.std.proofs.Common.{◌≡◌, refl, false, Some, None}
 use Rattle.arm_isa.specs.Decoding.{decoding}
-use Rattle.arm_isa.specs.declared.instruction.Insn.{Insn}
 use Rattle.arm_isa.specs.declared.instruction.Op.TheVariants.{Compute, Multiply, Exchange}
 use Rattle.arm_isa.specs.declared.instruction.Operand.TheVariants.{Value, Shifted}
 use Rattle.arm_isa.specs.declared.instruction.Shift.TheVariants.{Lsr}

@@ -1,5 +1,5 @@
 -- The registers that a done instruction writes, and the instructions that go back to the caller.
-use Rattle.std.specs.Prelude.{ℕ, ◌==◌, ◌&&◌, ◌||◌, not, nat_lt, Bool, true, false, if◌then◌else◌}
+use Rattle.std.specs.Prelude.{ℕ, ◌==◌, ◌&&◌, ◌||◌, not, nat_lt, Bool, true, false}
 use Rattle.arm_isa.specs.Fields.{flag}
 use Rattle.arm_isa.specs.Decoding.{is_test}
 use Rattle.arm_isa.specs.declared.instruction.Insn.{Insn}
@@ -7,7 +7,6 @@ use Rattle.arm_isa.specs.declared.instruction.Op.{Op}
 use Rattle.arm_isa.specs.declared.instruction.Op.TheVariants.{Compute, Multiply, Long, Word, Half, Many, Branch, Exchange}
 use Rattle.arm_isa.specs.declared.instruction.Operand.{Operand}
 use Rattle.arm_isa.specs.declared.instruction.Operand.TheVariants.{Value as Constant, Shifted as ShiftedOperand, ByRegister}
-use Rattle.arm_isa.specs.declared.instruction.Shift.{Shift}
 use Rattle.arm_isa.specs.declared.instruction.Shift.TheVariants.{Lsl, Lsr, Asr, Ror, Rrx}
 use Rattle.arm_isa.specs.declared.instruction.Offset.{Offset}
 use Rattle.arm_isa.specs.declared.instruction.Offset.TheVariants.{Value as Bytes, Shifted as ShiftedOffset}

@@ -2,7 +2,7 @@
 //! function of its own.
 
 ghost use Rattle.std.specs.Prelude.{◌≡◌, true};
-ghost use Rattle.arm_isa.specs.Decoding.{branch_op, compute_op, compute_refused, decoding, exchange_op, exchange_refused, first_fit, half_op, half_refused, index_field, index_refused, long_op, long_refused, many_op, many_refused, multiply_op, multiply_refused, operand_field, shift_field, shift_refused, table, unless, word_op, word_refused};
+ghost use Rattle.arm_isa.specs.Decoding.{branch_op, compute_op, compute_refused, decoding, exchange_op, exchange_refused, first_fit, half_op, half_refused, index_field, index_refused, is_move, is_test, long_op, long_refused, many_op, many_refused, multiply_op, multiply_refused, operand_field, shift_field, shift_refused, table, unless, word_op, word_refused};
 ghost use Rattle.arm_isa.specs.Fields.{field, flag};
 
 use crate::fields::{is_set, register};
@@ -13,6 +13,7 @@ const PC: u8 = 15;
 
 /// Decodes a word. `None` exactly where the table of encodings has no line that fits, or where the first
 /// line that fits refuses the word (`docs/DECODING.md` has the table in words).
+#[tactic(auto, using(crate::proofs::TableLemmas::decodes))]
 pub fn decode(word: u32) -> Option<Insn>
     ensures { result ≡ decoding word }
 {
@@ -20,13 +21,11 @@ pub fn decode(word: u32) -> Option<Insn>
     if cond == 15 {
         return None;
     }
-    match operation(word) {
-        Some(op) => Some(Insn { cond, op }),
-        None => None,
-    }
+    operation(word).map(|op| Insn { cond, op })
 }
 
 /// What a word says beside its condition.
+#[tactic(auto, using(crate::proofs::TableLemmas::to_compute, crate::proofs::TableLemmas::to_word_constant, crate::proofs::TableLemmas::to_word_register, crate::proofs::TableLemmas::to_media, crate::proofs::TableLemmas::to_many, crate::proofs::TableLemmas::to_branch, crate::proofs::TableLemmas::to_nothing))]
 fn operation(word: u32) -> Option<Op>
     ensures { result ≡ first_fit table word }
 {
@@ -48,6 +47,7 @@ fn operation(word: u32) -> Option<Op>
 }
 
 /// A word whose bits 27:25 are 000.
+#[tactic(auto, using(crate::proofs::TableLemmas::to_exchange, crate::proofs::TableLemmas::to_compute_register))]
 fn register_form(word: u32) -> Option<Op>
     requires { field word 25 3 ≡ 0 }
     ensures { result ≡ first_fit table word }
@@ -68,14 +68,14 @@ fn extension(word: u32) -> Option<Op>
     requires lower { flag word 4 ≡ true }
     ensures { result ≡ first_fit table word }
 {
-    if (word >> 5) % 4 != 0 {
+    if (word >> 5) % 4 > 0 {
         half(word)
+    } else if (word >> 23) % 4 == 1 {
+        long(word)
+    } else if (word >> 22) % 8 == 0 {
+        multiply(word)
     } else {
-        match (word >> 22) % 8 {
-            0 => multiply(word),
-            2 | 3 => long(word),
-            _ => None,
-        }
+        None
     }
 }
 
@@ -170,26 +170,42 @@ fn half(word: u32) -> Option<Op>
 fn compute(word: u32) -> Option<Op>
     ensures { result ≡ unless compute_refused compute_op word }
 {
-    let code = register(word, 21);
-    let flags = is_set(word, 20);
-    let (rn, rd) = (register(word, 16), register(word, 12));
-    let is_test = (8..=11).contains(&code);
-    let is_move = code == 13 || code == 15;
-    if is_test && !flags
-        || is_test && rd != 0
-        || is_move && rn != 0
-        || !is_test && flags && rd == PC
-        || is_shift_refused(word)
-    {
+    if is_compute_refused(word) {
         return None;
     }
     Some(Op::Compute {
-        code,
-        flags,
-        rn,
-        rd,
+        code: register(word, 21),
+        flags: is_set(word, 20),
+        rn: register(word, 16),
+        rd: register(word, 12),
         operand: operand_of(word),
     })
+}
+
+fn is_compute_refused(word: u32) -> bool
+    ensures { result ≡ compute_refused word }
+{
+    let flags = is_set(word, 20);
+    let (code, rn, rd) = (register(word, 21), register(word, 16), register(word, 12));
+    if is_test_code(code) {
+        !flags || rd != 0 || is_shift_refused(word)
+    } else {
+        is_move_code(code) && rn != 0 || flags && rd == PC || is_shift_refused(word)
+    }
+}
+
+/// Whether a code is TST, TEQ, CMP or CMN, which write no register.
+pub(crate) fn is_test_code(code: u8) -> bool
+    ensures { result ≡ is_test code }
+{
+    matches!(code, 8..=11)
+}
+
+/// Whether a code is MOV or MVN, which read no first operand.
+fn is_move_code(code: u8) -> bool
+    ensures { result ≡ is_move code }
+{
+    matches!(code, 13 | 15)
 }
 
 /// Whether a shift by a register stands beside r15.

@@ -4,6 +4,7 @@ ghost use Rattle.std.specs.Prelude.{◌≡◌};
 ghost use Rattle.arm_isa.specs.Classes.{class_by_op};
 ghost use Rattle.arm_isa.specs.Writes.{is_listed, is_return_form, keeps_address, writes_register};
 
+use crate::decoder::is_test_code;
 use crate::instruction::{Class, Index, Insn, Offset, Op, Operand, Shift};
 
 /// The class by which an instruction's time is counted.
@@ -35,7 +36,7 @@ pub fn may_write(insn: &Insn, register: u8) -> bool
     ensures { result ≡ writes_register insn.now register }
 {
     match insn.op {
-        Op::Compute { code, rd, .. } => !(8..=11).contains(&code) && register == rd,
+        Op::Compute { code, rd, .. } => !is_test_code(code) && register == rd,
         Op::Multiply { rd, .. } => register == rd,
         Op::Long { hi, lo, .. } => register == hi || register == lo,
         Op::Word {
