@@ -1,6 +1,7 @@
 -- The value of a term for a number of executions.
-use Rattle.std.specs.Prelude.{ℕ, zero, suc, ◌*◌, List, [], ◌∷◌}
+use Rattle.std.specs.Prelude.{ℕ, zero, suc, ◌+◌, ◌*◌, ◌==◌, if◌then◌else◌, List, [], ◌∷◌}
 use Rattle.wsym_terms.specs.Extents.{Extent, Finite, Infinite, plus, times, if_any}
+use Rattle.wsym_terms.specs.declared.costs.Cost.TheVariants.{Fin}
 use Rattle.wsym_terms.specs.Trees.{best}
 use Rattle.cost_multiset.specs.CostLists.{CostList, prefix_sum}
 use Rattle.wsym_formula.specs.declared.terms.Term.{Term, fold-Term}
@@ -39,3 +40,10 @@ level_value bounds (Scaled id body) = if_any (scaled_at (bounds id) body)
 -- the cycles of n executions
 abbrev pub term_value : (ℕ → Extent) → Term → ℕ → Extent
 term_value bounds = fold-Term (ℕ → Extent) (level_value bounds)
+
+-- The costs of a block: each execution costs its base, and the first one also a miss for each of its uses.
+abbrev pub block_costs : ℕ → ℕ → ℕ → CostList
+block_costs base miss uses =
+    if miss * uses == 0
+    then record { runs = []; tail = Fin base }
+    else record { runs = record { value = Fin (base + miss * uses); count = 1 } ∷ []; tail = Fin base }

@@ -4,6 +4,8 @@
 //! each further turn.
 #![tactic(auto)]
 
+mod leaves;
 mod terms;
 
+pub use leaves::leaf_costs;
 pub use terms::Term;
