@@ -1,62 +1,61 @@
 -- Which lines of the instruction cache a block uses, and within which loops each misses at most once.
-use Rattle.std.specs.Prelude.{ℕ, ◌+◌, ◌/◌, ◌%◌, ◌==◌, Bool, true, false, List, [], ◌∷◌, ◌++◌, Option, Some, None, length, map, filter, nat_le, if◌then◌else◌}
+use Rattle.std.specs.Prelude.{ℕ, ◌+◌, ◌/◌, ◌%◌, ◌==◌, Bool, false, if◌then◌else◌, List, [], ◌∷◌, ◌++◌, Option, Some, None, nat_le}
+use Rattle.std.specs.List.{list_any}
 use Rattle.wsym_terms.specs.declared.trees.Use.{Use}
 
--- a set-associative cache: sets, ways of each, and bytes of a line
+-- a set-associative cache: its sets, the lines that each holds, and the bytes of a line
 pub record Geometry : Type 0 where
   pub sets : ℕ
   pub ways : ℕ
   pub line : ℕ
 
-abbrev pub has_line : ℕ → List ℕ → Bool
-has_line line [] = false
-has_line line (l ∷ lines) = if l == line then true else has_line line lines
+-- a list of different lines with one more
+abbrev pub with_line : List ℕ → ℕ → List ℕ
+with_line lines line = if list_any (λ l. l == line) lines then lines else lines ++ line ∷ []
+
+abbrev pub lines_after : Geometry → List ℕ → List ℕ → List ℕ
+lines_after g lines [] = lines
+lines_after g lines (a ∷ addresses) = lines_after g (with_line lines (a / g.line)) addresses
 
 -- the lines of some addresses, each once
 abbrev pub lines_of : Geometry → List ℕ → List ℕ
-lines_of g [] = []
-lines_of g (a ∷ addresses) =
-    let others = lines_of g addresses in
-    if has_line (a / g.line) others then others else (a / g.line) ∷ others
+lines_of g addresses = lines_after g [] addresses
 
--- how many of these lines stand in the set of a line
+-- how many of some lines stand in the set of a line
 abbrev pub rivals : Geometry → ℕ → List ℕ → ℕ
 rivals g line [] = 0
 rivals g line (l ∷ lines) = if l % g.sets == line % g.sets then rivals g line lines + 1 else rivals g line lines
 
--- the lines that these addresses have in the set of a line all find room in it
-abbrev pub keeps : Geometry → ℕ → List ℕ → Bool
-keeps g line addresses = nat_le (rivals g line (lines_of g addresses)) g.ways
-
--- The least depth from `depth` on whose loop keeps the line. The rings are the addresses of the whole function, then of
--- each loop round the block, from the outermost in.
+-- The least depth from `depth` on whose loop has no more lines in the set of this line than the set holds. The rings are
+-- the lines of the whole function, then of each loop round the block, from the outermost in, each line once.
 abbrev pub scope_from : Geometry → ℕ → ℕ → List (List ℕ) → Option ℕ
 scope_from g line depth [] = None
-scope_from g line depth (ring ∷ rings) = if keeps g line ring then Some depth else scope_from g line (depth + 1) rings
+scope_from g line depth (ring ∷ rings) = if nat_le (rivals g line ring) g.ways then Some depth else scope_from g line (depth + 1) rings
 
--- the lines that a block fetches at its first address, and wherever the line isn't that of the address before
-abbrev pub changes : Geometry → ℕ → List ℕ → List ℕ
-changes g before [] = []
-changes g before (a ∷ addresses) = if a / g.line == before then changes g before addresses else (a / g.line) ∷ changes g (a / g.line) addresses
+abbrev pub is_last : Option ℕ → ℕ → Bool
+is_last None line = false
+is_last (Some last) line = last == line
 
-abbrev pub fetched_lines : Geometry → List ℕ → List ℕ
-fetched_lines g [] = []
-fetched_lines g (a ∷ addresses) = (a / g.line) ∷ changes g (a / g.line) addresses
+-- A block uses the line of its first address, and each line that isn't that of the address before.
+abbrev pub lines_used : Geometry → Option ℕ → List ℕ → List ℕ
+lines_used g last [] = []
+lines_used g last (a ∷ addresses) =
+    if is_last last (a / g.line) then lines_used g (Some (a / g.line)) addresses else (a / g.line) ∷ lines_used g (Some (a / g.line)) addresses
 
 abbrev pub with_scope : ℕ → Option ℕ → List Use → List Use
 with_scope line None uses = uses
 with_scope line (Some depth) uses = record { line = line; scope = depth } ∷ uses
-
-abbrev pub one_if_none : Option ℕ → ℕ
-one_if_none None = 1
-one_if_none (Some depth) = 0
 
 -- the uses that have a scope
 abbrev pub scoped : Geometry → List (List ℕ) → List ℕ → List Use
 scoped g rings [] = []
 scoped g rings (line ∷ lines) = with_scope line (scope_from g line 0 rings) (scoped g rings lines)
 
--- how many have none, so that each of them always counts as a miss
+abbrev pub one_without : Option ℕ → ℕ
+one_without None = 1
+one_without (Some depth) = 0
+
+-- how many uses have none: each of them always counts as a miss
 abbrev pub unscoped : Geometry → List (List ℕ) → List ℕ → ℕ
 unscoped g rings [] = 0
-unscoped g rings (line ∷ lines) = one_if_none (scope_from g line 0 rings) + unscoped g rings lines
+unscoped g rings (line ∷ lines) = one_without (scope_from g line 0 rings) + unscoped g rings lines

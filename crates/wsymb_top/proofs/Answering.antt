@@ -1,0 +1,57 @@
+-- From the report of some instructions to the report of a file, and from an outcome to each answer's cause.
+use Rattle.std.proofs.Common.{◌≡◌, ℕ, ◌≤◌, ◌⊎◌, inl, inr, List, length, Result, Ok, Err, IfOk, IfErr, IsErrOf, subst, sym, ap, ◌∙◌, arith, refl, Vec}
+use Rattle.std.specs.declared.alloc.Global.{Global}
+use Rattle.arm_isa.specs.declared.instruction.Insn.{Insn}
+use Rattle.elf32_image.specs.Parts.{ImageValue}
+use Rattle.elf32_image.specs.declared.refusal.ElfRefusal.{ElfRefusal}
+use Rattle.elf32_image.specs.Segments.{image_of}
+use Rattle.wsymb_top.specs.declared.refusals.Refusal.{Refusal}
+use Rattle.wsymb_top.specs.declared.refusals.Refusal.TheVariants as refusal
+use Rattle.fetch_timing.specs.Timings.{unit_timing}
+use Rattle.report_text.specs.declared.report.Report.{Report}
+use Rattle.report_text.specs.Lines.{text_of}
+use Rattle.wsymb_top.specs.Reports.{IsOfWalk}
+use Rattle.wsymb_top.specs.Straight.{IsStraight}
+use Rattle.wsymb_top.specs.Outcomes.{HasOneHeader, IsAnswered, IsCrooked, IsDelivered, IsDescribed, IsDue, IsGivenReport, IsGivenText, IsOfInsns, IsRefusedFor, IsReported, Reading, Writing}
+use Rattle.wsymb_top.specs.Outcomes.IsDelivered.{Whole, SinkFailed, SinkFull}
+use Rattle.wsymb_top.specs.Outcomes.Outcome.{Prints, Refuses}
+use Rattle.wsymb_top.specs.Refusals.{line_of, status_of}
+use Rattle.wsym_io.specs.Io.{appended}
+
+-- a report of the instructions of a straight function describes the image
+pub described : (image : ImageValue) (entry : ℕ) (insns : List Insn) (result : Result (Vec ℕ Global) Refusal) → length insns ≤ 100 → IsStraight image entry insns → IfOk result (λ text. IsOfInsns entry insns text.items) → IfOk result (λ text. IsDescribed image entry text.items)
+described image entry insns (Ok text) few straight of_insns = (of_insns.0, (insns, few, straight, of_insns.1), of_insns.2)
+described image entry insns (Err why) few straight of_insns = tt
+
+-- and so is that of the file
+pub reported : (bytes : List ℕ) (image : ImageValue) (entry : ℕ) (result : Result (Vec ℕ Global) Refusal) → HasOneHeader bytes → image_of bytes ≡ Ok image → IfOk result (λ text. IsDescribed image entry text.items) → IfOk result (λ text. IsReported bytes entry text.items)
+reported bytes image entry (Ok text) one is described = (described.0, (one, image, is, described.1), described.2)
+reported bytes image entry (Err why) one is described = tt
+
+-- why an image has no report is why its file has none
+pub refused_for : (bytes : List ℕ) (image : ImageValue) (entry : ℕ) (result : Result (Vec ℕ Global) Refusal) → HasOneHeader bytes → image_of bytes ≡ Ok image → (IsErrOf result refusal.NotStraight → IsCrooked image entry) → IfErr result (λ why. (why ≡ refusal.Memory) ⊎ (why ≡ refusal.NotStraight)) → IfErr result (λ why. IsRefusedFor bytes entry why)
+refused_for bytes image entry (Ok text) one is crooked either = tt
+refused_for bytes image entry (Err why) one is crooked (inl memory) = subst (λ (r : Refusal). IsRefusedFor bytes entry r) (sym memory) tt
+refused_for bytes image entry (Err why) one is crooked (inr bent) = subst (λ (r : Refusal). IsRefusedFor bytes entry r) (sym bent) (inr (one, image, is, crooked (cc)))
+
+-- the text of the report of some instructions
+pub of_report : (entry : ℕ) (insns : List Insn) (report : Report) (result : Result (Vec ℕ Global) Refusal) → IsOfWalk unit_timing entry 4096 insns report → IfOk result (λ text. text.items ≡ text_of report) → IfOk result (λ text. IsOfInsns entry insns text.items)
+of_report entry insns report (Ok text) is written = (report, is, written)
+of_report entry insns report (Err why) is written = tt
+
+-- the text of a report that is due, delivered, is an answer
+pub answered_text : (words : List (List ℕ)) (reading : Reading) (writing : Writing) (text : List ℕ) (result : ℕ) → IsGivenText words reading text → IsDelivered text 0 writing result → IsAnswered words reading writing result
+answered_text words reading writing text result given delivered =
+    (Prints given.0, given.1, subst (λ (t : List ℕ). IsDelivered t 0 writing result) given.2 delivered)
+
+-- and so is the line of a refusal that is due
+pub answered_refusal : (words : List (List ℕ)) (reading : Reading) (writing : Writing) (why : Refusal) (line : List ℕ) (status result : ℕ) → IsDue words reading (Refuses why) → line ≡ line_of why → status ≡ status_of why → IsDelivered line status writing result → IsAnswered words reading writing result
+answered_refusal words reading writing why line status result due is_line is_status delivered =
+    (Refuses why, due, subst (λ (s : ℕ). IsDelivered (line_of why) s writing result) is_status (subst (λ (l : List ℕ). IsDelivered l status writing result) is_line delivered))
+
+-- a text whose status is 0 was appended whole
+pub report_of_answer : (words : List (List ℕ)) (reading : Reading) (writing : Writing) (text : List ℕ) (result : ℕ) → IsGivenText words reading text → IsDelivered text 0 writing result → result ≡ 0 → IsGivenReport words reading writing.contents writing.new
+report_of_answer words reading writing text result given (Whole answer written) zero =
+    (given.0, given.1, written ∙ ap (λ (t : List ℕ). appended writing.contents t) given.2)
+report_of_answer words reading writing text result given (SinkFailed answer rose written) zero = absurd (omega arith)
+report_of_answer words reading writing text result given (SinkFull answer written) zero = absurd (omega arith)

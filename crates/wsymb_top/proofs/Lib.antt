@@ -1,0 +1,4 @@
+pub mod Answering
+pub mod Causes
+pub mod Numerals
+pub mod Walking
