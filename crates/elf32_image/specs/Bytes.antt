@@ -7,9 +7,11 @@ use Rattle.elf32_image.specs.Parts.{Segment, ImageValue}
 use Rattle.elf32_image.specs.declared.image.Loaded.{Loaded}
 use Rattle.elf32_image.specs.declared.image.Loaded.TheVariants.{No, ReadOnly, Writable}
 
+-- bit 0 of the flags, PF_X, is set
 abbrev pub is_executable : Segment → Bool
 is_executable segment = segment.flags % 2 == 1
 
+-- bit 1 of the flags, PF_W, is set
 abbrev pub is_writable : Segment → Bool
 is_writable segment = segment.flags / 2 % 2 == 1
 
@@ -21,10 +23,11 @@ covers address segment = nat_le segment.address address && nat_lt address (segme
 abbrev pub holder : ImageValue → ℕ → Option Segment
 holder image address = find (covers address) image.segments
 
--- the byte that a segment holds at one of its addresses
+-- the byte that a segment holds at one of its addresses: the file's, and 0 behind those
 abbrev pub byte_of : Segment → ℕ → ℕ
 byte_of segment address = unwrap_or (slice_get segment.bytes (address - segment.address)) 0
 
+-- what stands at an address that this segment holds, or none
 abbrev pub loaded_in : Option Segment → ℕ → Loaded
 loaded_in None address = No
 loaded_in (Some segment) address =
@@ -34,11 +37,13 @@ loaded_in (Some segment) address =
 abbrev pub loaded : ImageValue → ℕ → Loaded
 loaded image address = loaded_in (holder image address) address
 
+-- the byte of an answer
 abbrev pub loaded_byte : Loaded → Option ℕ
 loaded_byte No = None
 loaded_byte (ReadOnly byte) = Some byte
 loaded_byte (Writable byte) = Some byte
 
+-- the byte of an answer that no program can write
 abbrev pub constant_byte : Loaded → Option ℕ
 constant_byte No = None
 constant_byte (ReadOnly byte) = Some byte
@@ -64,12 +69,15 @@ word_by byte address =
     then word_of (byte address) (byte (address + 1)) (byte (address + 2)) (byte (address + 3))
     else None
 
+-- the word that is loaded at the address
 abbrev pub word_at : ImageValue → ℕ → Option ℕ
 word_at image address = word_by (byte_at image) address
 
+-- the word that is loaded at the address and that no program can write
 abbrev pub constant_at : ImageValue → ℕ → Option ℕ
 constant_at image address = word_by (constant_byte_at image) address
 
+-- whether there is such a segment and it may be executed
 abbrev pub executable_in : Option Segment → Bool
 executable_in None = false
 executable_in (Some segment) = is_executable segment

@@ -37,6 +37,7 @@ is_within file_size header =
     && nat_le header.p_filesz header.p_memsz
     && nat_le (header.p_vaddr + header.p_memsz) (2 ^ 32)
 
+-- what a header loads: its address, its bytes from the file, its size in memory and its flags
 abbrev pub segment_of : List ℕ → ProgramHeader → Segment
 segment_of file header = record {
   address = header.p_vaddr;
@@ -45,7 +46,7 @@ segment_of file header = record {
   flags = header.p_flags;
 }
 
--- the loaded segments that so many headers at the head of the table give
+-- the loaded segments that so many headers at the head of the table give, all of which must be within
 abbrev pub segments_of : List ℕ → ℕ → List ℕ → Result (List Segment) ElfRefusal
 segments_of file count table =
     let loaded = filter is_loaded (program_headers count table) in
@@ -56,10 +57,12 @@ abbrev pub table_is_within : ℕ → FileHeader → Bool
 table_is_within file_size header =
     header.program_count == 0 || nat_le (header.program_offset + 32 * header.program_count) file_size
 
+-- the image of the segments
 abbrev pub image_with : Result (List Segment) ElfRefusal → Result ImageValue ElfRefusal
 image_with (Ok segments) = Ok (record { segments = segments })
 image_with (Err refusal) = Err refusal
 
+-- the image of a file with this header
 abbrev pub image_under : List ℕ → Option FileHeader → Result ImageValue ElfRefusal
 image_under file None = Err NotElf32Arm
 image_under file (Some header) =
