@@ -1,2 +1,3 @@
 pub mod KnownWords
+pub mod RangeLemmas
 pub mod TableLemmas

@@ -1,9 +1,10 @@
 //! The decoder. A word goes by its bits 27:25 to the few lines of the table that can fit it, each of them a
 //! function of its own.
 
-ghost use Rattle.std.specs.Prelude.{◌≡◌, true};
+ghost use Rattle.std.specs.Prelude.{◌≡◌, true, IfSome};
 ghost use Rattle.arm_isa.specs.Decoding.{branch_op, compute_op, compute_refused, decoding, exchange_op, exchange_refused, first_fit, half_op, half_refused, index_field, index_refused, is_move, is_test, long_op, long_refused, many_op, many_refused, multiply_op, multiply_refused, operand_field, shift_field, shift_refused, table, unless, word_op, word_refused};
 ghost use Rattle.arm_isa.specs.Fields.{field, flag};
+ghost use Rattle.arm_isa.specs.Ranges.{IsInsn};
 
 use crate::fields::{is_set, register};
 use crate::instruction::{HalfKind, Index, Insn, Offset, Op, Operand, Shift};
@@ -12,10 +13,12 @@ use crate::instruction::{HalfKind, Index, Insn, Offset, Op, Operand, Shift};
 const PC: u8 = 15;
 
 /// Decodes a word. `None` exactly where the table of encodings has no line that fits, or where the first
-/// line that fits refuses the word (`docs/DECODING.md` has the table in words).
+/// line that fits refuses the word (`docs/DECODING.md` has the table in words). Each field of a decoded
+/// instruction lies in the range that its type gives; so the condition is at most 14.
 #[tactic(auto, using(crate::proofs::TableLemmas::decodes))]
 pub fn decode(word: u32) -> Option<Insn>
-    ensures { result ≡ decoding word }
+    ensures decoded { result ≡ decoding word }
+    ensures ranges { IfSome result IsInsn }
 {
     let cond = register(word, 28);
     if cond == 15 {

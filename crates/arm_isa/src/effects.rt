@@ -29,9 +29,9 @@ pub fn class_of(insn: &Insn) -> Class
     }
 }
 
-/// Whether the instruction, where it is done, writes the register: as its destination, as a base that is
-/// written back, as a register of LDM's list, as r14 of BL, or as r15 where something goes to pc (B, BL and
-/// BX among them). TST, TEQ, CMP and CMN write none. False for a number above 15 that isn't a register.
+/// Whether the instruction, where it is done, writes the register (0 to 15): as its destination, as a base
+/// that is written back, as a register of LDM's list, as r14 of BL, or as r15 where something goes to pc
+/// (B, BL and BX among them). TST, TEQ, CMP and CMN write none.
 pub fn may_write(insn: &Insn, register: u8) -> bool
     ensures { result ≡ writes_register insn.now register }
 {

@@ -25,3 +25,6 @@ pub use conditions::{Flags, passes};
 pub use decoder::decode;
 pub use effects::{class_of, is_return, may_write};
 pub use instruction::{Class, HalfKind, Index, Insn, Offset, Op, Operand, Shift};
+
+#[cfg(test)]
+mod tests;
