@@ -1,14 +1,14 @@
 -- Each line of the table gives fields within their ranges.
-use Rattle.std.proofs.Common.{◌^◌, ◌==◌, ◌||◌, ◌≡◌, ◌≢◌, ℕ, ◌<◌, ◌≤◌, refl, true, false, Bool, arith, Option, Some, None, IfSome, if◌then◌else◌}
+use Rattle.std.proofs.Common.{◌^◌, ◌==◌, ◌||◌, ◌≡◌, ℕ, ◌<◌, ◌≤◌, refl, true, false, Bool, arith, Option, Some, None, IfSome, if◌then◌else◌}
 use Rattle.std.proofs.lemmas.Bool.Decides.{nat_tests}
 use Rattle.std.proofs.lemmas.Nat.{or_of_32}
 use Rattle.std.specs.Int.{rotate_right, w32}
 use Rattle.std.proofs.lemmas.Int.{ints}
 use Rattle.arm_isa.specs.declared.instruction.Op.{Op}
 use Rattle.arm_isa.specs.declared.instruction.Insn.{Insn}
-use Rattle.arm_isa.specs.Fields.{field, flag}
-use Rattle.arm_isa.specs.Ranges.{IsShift, IsOperand, IsOffset, IsOp, IsInsn}
-use Rattle.arm_isa.specs.Decoding.{exchange_refused, exchange_op, multiply_refused, multiply_op, long_refused, long_op, half_refused, half_op, half_offset, compute_refused, compute_op, operand_field, shift_field, word_refused, word_op, word_offset, many_refused, many_op, branch_op, branch_words, shift_refused, shifted_by_register, rm_field, rs_field, table, first_fit, unless, under, decoding, exchange_fits, multiply_fits, long_fits, half_fits, extension_fits, compute_fits, word_fits, many_fits, branch_fits}
+use Rattle.arm_isa.specs.Fields.{field}
+use Rattle.arm_isa.specs.Ranges.{IsShift, IsOperand, IsOp, IsInsn}
+use Rattle.arm_isa.specs.Decoding.{exchange_refused, exchange_op, multiply_refused, multiply_op, long_refused, long_op, half_refused, half_op, compute_refused, compute_op, operand_field, shift_field, word_refused, word_op, many_refused, many_op, branch_op, shift_refused, shifted_by_register, rm_field, rs_field, table, first_fit, under, decoding, exchange_fits, multiply_fits, long_fits, half_fits, extension_fits, compute_fits, word_fits, many_fits, branch_fits}
 
 shift_range : (w : ℕ) → IsShift (shift_field w)
 shift_range w = grind (arith, nat_tests)

@@ -445,6 +445,7 @@ fn conditions(rt: HostRuntime) {
         (14, 0b0000, true),
         (14, 0b1111, true),
     ] {
+        assert!(rt; cond <= 14);
         assert_eq!(rt;
             passes(cond, flags_of(nzcv)),
             want,
