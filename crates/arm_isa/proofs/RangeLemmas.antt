@@ -8,7 +8,7 @@ use Rattle.arm_isa.specs.declared.instruction.Op.{Op}
 use Rattle.arm_isa.specs.declared.instruction.Insn.{Insn}
 use Rattle.arm_isa.specs.Fields.{field}
 use Rattle.arm_isa.specs.Ranges.{IsShift, IsOperand, IsOp, IsInsn}
-use Rattle.arm_isa.specs.Decoding.{exchange_refused, exchange_op, multiply_refused, multiply_op, long_refused, long_op, half_refused, half_op, compute_refused, compute_op, operand_field, shift_field, word_refused, word_op, many_refused, many_op, branch_op, shift_refused, shifted_by_register, rm_field, rs_field, table, first_fit, under, decoding, exchange_fits, multiply_fits, long_fits, half_fits, extension_fits, compute_fits, word_fits, many_fits, branch_fits}
+use Rattle.arm_isa.specs.Decoding.{exchange_refused, exchange_op, multiply_refused, multiply_op, long_refused, long_op, half_refused, half_op, compute_refused, compute_op, operand_field, shift_field, word_refused, word_op, many_refused, many_op, branch_op, shift_refused, shifted_by_register, rm_field, rs_field, table, first_fit, unless, exchange_fits, multiply_fits, long_fits, half_fits, extension_fits, compute_fits, word_fits, many_fits, branch_fits}
 
 shift_range : (w : ℕ) → IsShift (shift_field w)
 shift_range w = grind (arith, nat_tests)
@@ -50,37 +50,27 @@ many_range w h = grind (arith, nat_tests)
 branch_range : (w : ℕ) → IsOp (branch_op w)
 branch_range w = grind (arith, nat_tests, ints)
 
--- the same of the whole table
+kept_by : (b : Bool) (op : Op) (cond : ℕ) → cond ≤ 14 → (b ≡ false → IsOp op) → IfSome (if b then None else Some (record { cond = cond; op = op })) IsInsn
+kept_by true op cond c h = tt
+kept_by false op cond c h = (c, h refl)
 
-kept : (b : Bool) (op : Op) → (b ≡ false → IsOp op) → IfSome (if b then None else Some op) IsOp
-kept true op h = tt
-kept false op h = h refl
-
-either : (b : Bool) (x y : Option Op) → IfSome x IsOp → IfSome y IsOp → IfSome (if b then x else y) IsOp
+either : (b : Bool) (x y : Option Insn) → IfSome x IsInsn → IfSome y IsInsn → IfSome (if b then x else y) IsInsn
 either true x y p q = p
 either false x y p q = q
 
-table_range : (w : ℕ) → IfSome (first_fit table w) IsOp
-table_range w =
-    either (exchange_fits w) _ _ (kept (exchange_refused w) (exchange_op w) (exchange_range w))
-    (either (multiply_fits w) _ _ (kept (multiply_refused w) (multiply_op w) (multiply_range w))
-    (either (long_fits w) _ _ (kept (long_refused w) (long_op w) (long_range w))
-    (either (half_fits w) _ _ (kept (half_refused w) (half_op w) (half_range w))
+-- the same of the whole table, below the condition 15
+
+kept : (refused : ℕ → Bool) (meaning : ℕ → Op) (w : ℕ) → field w 28 4 ≤ 14 → (refused w ≡ false → IsOp (meaning w)) → IfSome (unless refused meaning w) IsInsn
+kept refused meaning w c h = kept_by (refused w) (meaning w) (field w 28 4) c h
+
+pub table_range : (w : ℕ) → field w 28 4 ≤ 14 → IfSome (first_fit table w) IsInsn
+table_range w c =
+    either (exchange_fits w) _ _ (kept exchange_refused exchange_op w c (exchange_range w))
+    (either (multiply_fits w) _ _ (kept multiply_refused multiply_op w c (multiply_range w))
+    (either (long_fits w) _ _ (kept long_refused long_op w c (long_range w))
+    (either (half_fits w) _ _ (kept half_refused half_op w c (half_range w))
     (either (extension_fits w) None _ tt
-    (either (compute_fits w) _ _ (kept (compute_refused w) (compute_op w) (compute_range w))
-    (either (word_fits w) _ _ (kept (word_refused w) (word_op w) (word_range w))
-    (either (many_fits w) _ _ (kept (many_refused w) (many_op w) (many_range w))
-    (either (branch_fits w) (Some (branch_op w)) None (branch_range w) tt))))))))
-
-with_condition : (cond : ℕ) (o : Option Op) → cond ≤ 14 → IfSome o IsOp → IfSome (under cond o) IsInsn
-with_condition cond None c p = tt
-with_condition cond (Some op) c p = (c, p)
-
-below_fifteen : (b : Bool) (o : Option Insn) → (b ≡ false → IfSome o IsInsn) → IfSome (if b then None else o) IsInsn
-below_fifteen true o h = tt
-below_fifteen false o h = h refl
-
-pub decoding_range : (w : ℕ) → IfSome (decoding w) IsInsn
-decoding_range w =
-    below_fifteen (field w 28 4 == 15) (under (field w 28 4) (first_fit table w))
-    (λ other. with_condition (field w 28 4) (first_fit table w) (grind (arith, nat_tests)) (table_range w))
+    (either (compute_fits w) _ _ (kept compute_refused compute_op w c (compute_range w))
+    (either (word_fits w) _ _ (kept word_refused word_op w c (word_range w))
+    (either (many_fits w) _ _ (kept many_refused many_op w c (many_range w))
+    (either (branch_fits w) _ None (kept (λ _. false) branch_op w c (λ _. branch_range w)) tt))))))))

@@ -1,10 +1,9 @@
 -- Which line of the table a word goes to, by its bits 27:25 and, where these are 000, by some more.
-use Rattle.std.proofs.Common.{◌≡◌, ◌≢◌, ℕ, ◌<◌, refl, true, false, arith, Option, Some, None, List, [], ◌∷◌, ◌∙◌}
+use Rattle.std.proofs.Common.{◌≡◌, ◌≢◌, ℕ, ◌<◌, refl, true, false, arith, None, List, [], ◌∷◌, ◌∙◌}
 use Rattle.std.proofs.lemmas.Bool.{ne_eqb}
 use Rattle.std.proofs.lemmas.Bool.Decides.{nat_tests}
-use Rattle.arm_isa.specs.declared.instruction.Op.{Op}
 use Rattle.arm_isa.specs.Fields.{field, flag}
-use Rattle.arm_isa.specs.Decoding.{Line, Decodes, table, first_fit, unless, exchange_fits, exchange_refused, exchange_op, multiply_fits, multiply_refused, multiply_op, long_fits, long_refused, long_op, half_fits, half_refused, half_op, extension_fits, compute_fits, compute_refused, compute_op, word_fits, word_refused, word_op, many_fits, many_refused, many_op, branch_fits, branch_op, under, decoding}
+use Rattle.arm_isa.specs.Decoding.{Line, Decodes, table, first_fit, unless, exchange_fits, exchange_refused, exchange_op, multiply_fits, multiply_refused, multiply_op, long_fits, long_refused, long_op, half_fits, half_refused, half_op, extension_fits, compute_fits, compute_refused, compute_op, word_fits, word_refused, word_op, many_fits, many_refused, many_op, branch_fits, branch_op, decoding}
 
 -- no pattern of the first five lines fits a word whose bits 27:25 aren't 000
 
@@ -74,7 +73,7 @@ to_media w h b = behind w (λ e. omega arith) ∙ rw (compute_fits_more w (omega
 pub to_many : (w : ℕ) → field w 25 3 ≡ 4 → first_fit table w ≡ unless many_refused many_op w
 to_many w h = behind w (λ e. omega arith) ∙ rw (compute_fits_more w (omega arith), word_fits_more w (omega arith), h) refl
 
-pub to_branch : (w : ℕ) → field w 25 3 ≡ 5 → first_fit table w ≡ Some (branch_op w)
+pub to_branch : (w : ℕ) → field w 25 3 ≡ 5 → first_fit table w ≡ unless (λ _. false) branch_op w
 to_branch w h = behind w (λ e. omega arith) ∙ rw (compute_fits_more w (omega arith), word_fits_more w (omega arith), many_fits_not w (λ e. omega arith), h) refl
 
 pub to_nothing : (w : ℕ) → 5 < field w 25 3 → first_fit table w ≡ None
@@ -150,6 +149,6 @@ compute_fits_0 w h = grind (arith, nat_tests)
 pub to_compute_register : (w : ℕ) → field w 25 3 ≡ 0 → field w 4 24 ≢ 0x12FFF1 → (flag w 7 ≡ true → flag w 4 ≡ true → ⊥) → first_fit table w ≡ unless compute_refused compute_op w
 to_compute_register w h apart low = rw (exchange_apart w apart, multiply_low w low, long_low w low, half_low w low, extension_low w low, compute_fits_0 w h) refl
 
--- the condition stands beside what the table says
-pub decodes : (w cond : ℕ) (o : Option Op) → o ≡ first_fit table w → cond ≡ field w 28 4 → cond ≢ 15 → decoding w ≡ under cond o
-decodes w cond o is c some = rw (is, c) (rw (ne_eqb (field w 28 4) 15 (λ e. some (c ∙ e))) refl)
+-- the table alone counts below the condition 15
+pub below_fifteen : (w : ℕ) → field w 28 4 ≢ 15 → decoding w ≡ first_fit table w
+below_fifteen w some = rw (ne_eqb (field w 28 4) 15 some) refl

@@ -259,19 +259,15 @@ table =
     ∷ Decodes branch_fits (λ _. false) branch_op
     ∷ []
 
--- what a word means that a line fits
-abbrev pub unless : (ℕ → Bool) → (ℕ → Op) → ℕ → Option Op
-unless refused meaning word = if refused word then None else Some (meaning word)
+-- what a word means that a line fits; the condition stands in bits 31:28 of each
+abbrev pub unless : (ℕ → Bool) → (ℕ → Op) → ℕ → Option Insn
+unless refused meaning word = if refused word then None else Some (record { cond = field word 28 4; op = meaning word })
 
-abbrev pub first_fit : List Line → ℕ → Option Op
+abbrev pub first_fit : List Line → ℕ → Option Insn
 first_fit [] word = None
 first_fit (Decodes fits refused meaning ∷ lines) word = if fits word then unless refused meaning word else first_fit lines word
 first_fit (Undefined fits ∷ lines) word = if fits word then None else first_fit lines word
 
-abbrev pub under : ℕ → Option Op → Option Insn
-under cond None = None
-under cond (Some op) = Some (record { cond = cond; op = op })
-
 -- own: the condition 15 has none (in this architecture it is "never", unpredictable)
 abbrev pub decoding : ℕ → Option Insn
-decoding word = if field word 28 4 == 15 then None else under (field word 28 4) (first_fit table word)
+decoding word = if field word 28 4 == 15 then None else first_fit table word

@@ -1,7 +1,7 @@
 //! The decoder. A word goes by its bits 27:25 to the few lines of the table that can fit it, each of them a
 //! function of its own.
 
-ghost use Rattle.std.specs.Prelude.{◌≡◌, true, IfSome};
+ghost use Rattle.std.specs.Prelude.{◌≡◌, true, false, IfSome};
 ghost use Rattle.arm_isa.specs.Decoding.{branch_op, compute_op, compute_refused, decoding, exchange_op, exchange_refused, first_fit, half_op, half_refused, index_field, index_refused, is_move, is_test, long_op, long_refused, many_op, many_refused, multiply_op, multiply_refused, operand_field, shift_field, shift_refused, table, unless, word_op, word_refused};
 ghost use Rattle.arm_isa.specs.Fields.{field, flag};
 ghost use Rattle.arm_isa.specs.Ranges.{IsInsn};
@@ -15,21 +15,20 @@ const PC: u8 = 15;
 /// Decodes a word. `None` exactly where the table of encodings has no line that fits, or where the first
 /// line that fits refuses the word (`docs/DECODING.md` has the table in words). Each field of a decoded
 /// instruction lies in the range that its type gives; so the condition is at most 14.
-#[tactic(auto, using(crate::proofs::TableLemmas::decodes))]
+#[tactic(auto, using(crate::proofs::TableLemmas::below_fifteen))]
 pub fn decode(word: u32) -> Option<Insn>
     ensures decoded { result ≡ decoding word }
     ensures ranges { IfSome result IsInsn }
 {
-    let cond = register(word, 28);
-    if cond == 15 {
+    if register(word, 28) == 15 {
         return None;
     }
-    operation(word).map(|op| Insn { cond, op })
+    by_class(word)
 }
 
-/// What a word says beside its condition.
+/// What the table says of a word, whose condition isn't 15.
 #[tactic(auto, using(crate::proofs::TableLemmas::to_compute, crate::proofs::TableLemmas::to_word_constant, crate::proofs::TableLemmas::to_word_register, crate::proofs::TableLemmas::to_media, crate::proofs::TableLemmas::to_many, crate::proofs::TableLemmas::to_branch, crate::proofs::TableLemmas::to_nothing))]
-fn operation(word: u32) -> Option<Op>
+fn by_class(word: u32) -> Option<Insn>
     ensures { result ≡ first_fit table word }
 {
     match (word >> 25) % 8 {
@@ -44,14 +43,14 @@ fn operation(word: u32) -> Option<Op>
             }
         }
         4 => many(word),
-        5 => Some(branch(word)),
+        5 => branch(word),
         _ => None,
     }
 }
 
 /// A word whose bits 27:25 are 000.
 #[tactic(auto, using(crate::proofs::TableLemmas::to_exchange, crate::proofs::TableLemmas::to_compute_register))]
-fn register_form(word: u32) -> Option<Op>
+fn register_form(word: u32) -> Option<Insn>
     requires { field word 25 3 ≡ 0 }
     ensures { result ≡ first_fit table word }
 {
@@ -65,7 +64,7 @@ fn register_form(word: u32) -> Option<Op>
 }
 
 /// A word whose bits 27:25 are 000 and whose bits 7 and 4 are 1.
-fn extension(word: u32) -> Option<Op>
+fn extension(word: u32) -> Option<Insn>
     requires class { field word 25 3 ≡ 0 }
     requires upper { flag word 7 ≡ true }
     requires lower { flag word 4 ≡ true }
@@ -82,18 +81,27 @@ fn extension(word: u32) -> Option<Op>
     }
 }
 
-fn exchange(word: u32) -> Option<Op>
+/// The instruction under the word's condition.
+#[inline(always)]
+fn under_condition(word: u32, op: Op) -> Option<Insn>
+    ensures { result ≡ Some (record { cond = field word 28 4; op = op }) }
+{
+    let cond = register(word, 28);
+    Some(Insn { cond, op })
+}
+
+fn exchange(word: u32) -> Option<Insn>
     ensures { result ≡ unless exchange_refused exchange_op word }
 {
     let rm = register(word, 0);
     if rm == PC {
         None
     } else {
-        Some(Op::Exchange { rm })
+        under_condition(word, Op::Exchange { rm })
     }
 }
 
-fn multiply(word: u32) -> Option<Op>
+fn multiply(word: u32) -> Option<Insn>
     ensures { result ≡ unless multiply_refused multiply_op word }
 {
     let add = is_set(word, 21);
@@ -102,17 +110,18 @@ fn multiply(word: u32) -> Option<Op>
     if rd == PC || rn == PC || rs == PC || rm == PC || !add && rn != 0 {
         return None;
     }
-    Some(Op::Multiply {
+    let op = Op::Multiply {
         add,
         flags: is_set(word, 20),
         rd,
         rn,
         rs,
         rm,
-    })
+    };
+    under_condition(word, op)
 }
 
-fn long(word: u32) -> Option<Op>
+fn long(word: u32) -> Option<Insn>
     ensures { result ≡ unless long_refused long_op word }
 {
     let (hi, lo) = (register(word, 16), register(word, 12));
@@ -120,7 +129,7 @@ fn long(word: u32) -> Option<Op>
     if hi == PC || lo == PC || rs == PC || rm == PC || hi == lo {
         return None;
     }
-    Some(Op::Long {
+    let op = Op::Long {
         signed: is_set(word, 22),
         add: is_set(word, 21),
         flags: is_set(word, 20),
@@ -128,10 +137,11 @@ fn long(word: u32) -> Option<Op>
         lo,
         rs,
         rm,
-    })
+    };
+    under_condition(word, op)
 }
 
-fn half(word: u32) -> Option<Op>
+fn half(word: u32) -> Option<Insn>
     ensures { result ≡ unless half_refused half_op word }
 {
     let load = is_set(word, 20);
@@ -159,7 +169,7 @@ fn half(word: u32) -> Option<Op>
     } else {
         Offset::Value(16 * u32::from(upper) + u32::from(rm))
     };
-    Some(Op::Half {
+    let op = Op::Half {
         load,
         kind,
         index: index_of(word),
@@ -167,22 +177,24 @@ fn half(word: u32) -> Option<Op>
         rn: register(word, 16),
         rd,
         offset,
-    })
+    };
+    under_condition(word, op)
 }
 
-fn compute(word: u32) -> Option<Op>
+fn compute(word: u32) -> Option<Insn>
     ensures { result ≡ unless compute_refused compute_op word }
 {
     if is_compute_refused(word) {
         return None;
     }
-    Some(Op::Compute {
+    let op = Op::Compute {
         code: register(word, 21),
         flags: is_set(word, 20),
         rn: register(word, 16),
         rd: register(word, 12),
         operand: operand_of(word),
-    })
+    };
+    under_condition(word, op)
 }
 
 fn is_compute_refused(word: u32) -> bool
@@ -262,7 +274,7 @@ fn shift_of(word: u32) -> Shift
     }
 }
 
-fn word_transfer(word: u32) -> Option<Op>
+fn word_transfer(word: u32) -> Option<Insn>
     ensures { result ≡ unless word_refused word_op word }
 {
     let (load, byte) = (is_set(word, 20), is_set(word, 22));
@@ -279,7 +291,7 @@ fn word_transfer(word: u32) -> Option<Op>
     } else {
         Offset::Value(word % 4096)
     };
-    Some(Op::Word {
+    let op = Op::Word {
         load,
         byte,
         index: index_of(word),
@@ -287,7 +299,8 @@ fn word_transfer(word: u32) -> Option<Op>
         rn: register(word, 16),
         rd,
         offset,
-    })
+    };
+    under_condition(word, op)
 }
 
 fn index_of(word: u32) -> Index
@@ -313,7 +326,7 @@ fn is_index_refused(word: u32, by_register: bool) -> bool
         || (!before || write) && (rn == PC || rn == register(word, 12) || by_register && rn == rm)
 }
 
-fn many(word: u32) -> Option<Op>
+fn many(word: u32) -> Option<Insn>
     ensures { result ≡ unless many_refused many_op word }
 {
     let (load, back) = (is_set(word, 20), is_set(word, 21));
@@ -327,18 +340,19 @@ fn many(word: u32) -> Option<Op>
     {
         return None;
     }
-    Some(Op::Many {
+    let op = Op::Many {
         load,
         before: is_set(word, 24),
         up: is_set(word, 23),
         back,
         rn,
         list,
-    })
+    };
+    under_condition(word, op)
 }
 
-fn branch(word: u32) -> Op
-    ensures { result ≡ branch_op word }
+fn branch(word: u32) -> Option<Insn>
+    ensures { result ≡ unless (λ _. false) branch_op word }
 {
     let offset = (word % (1 << 24)) as i32;
     let words = if offset < 1 << 23 {
@@ -346,8 +360,9 @@ fn branch(word: u32) -> Op
     } else {
         offset - (1 << 24)
     };
-    Op::Branch {
+    let op = Op::Branch {
         link: is_set(word, 24),
         words,
-    }
+    };
+    under_condition(word, op)
 }
