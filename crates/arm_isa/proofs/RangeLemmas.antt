@@ -1,5 +1,5 @@
 -- Each line of the table gives fields within their ranges.
-use Rattle.std.proofs.Common.{◌^◌, ◌==◌, ◌||◌, ◌≡◌, ℕ, ◌<◌, ◌≤◌, refl, true, false, Bool, arith, Option, Some, None, IfSome, if◌then◌else◌}
+use Rattle.std.proofs.Common.{◌^◌, ◌||◌, ◌≡◌, ℕ, ◌<◌, ◌≤◌, refl, true, false, Bool, arith, Option, Some, None, IfSome, if◌then◌else◌}
 use Rattle.std.proofs.lemmas.Bool.Decides.{nat_tests}
 use Rattle.std.proofs.lemmas.Nat.{or_of_32}
 use Rattle.std.specs.Int.{rotate_right, w32}

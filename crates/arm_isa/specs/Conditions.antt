@@ -1,4 +1,4 @@
--- The condition field (ARM Architecture Reference Manual, A3.2).
+-- The condition field (ARM Architecture Reference Manual, chapter A3, "The condition field").
 use Rattle.std.specs.Prelude.{ℕ, ◌==◌, ◌&&◌, ◌||◌, not, Bool, true, if◌then◌else◌}
 use Rattle.arm_isa.specs.declared.conditions.Flags.{Flags}
 

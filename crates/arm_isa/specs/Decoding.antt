@@ -1,5 +1,6 @@
 -- The decoding of a word, as a table of encodings. The first line whose pattern fits a word counts.
--- Sections are those of the ARM Architecture Reference Manual (ARM DDI 0100). Where the manual calls an
+-- The quoted headings are those of the ARM Architecture Reference Manual (ARM DDI 0100): encodings stand in
+-- chapter A3, single instructions in A4, operands and addresses in A5. Where the manual calls an
 -- encoding undefined or unpredictable, the comment says so; "own" marks a word that this project
 -- refuses though the manual gives it a meaning, or that belongs to another architecture or mode.
 use Rattle.std.specs.Prelude.{ℕ, ◌+◌, ◌*◌, ◌^◌, ◌==◌, ◌&&◌, ◌||◌, not, nat_le, nat_lt, Bool, false, ℤ, pos, ◌-ℤ◌, Option, None, Some, List, [], ◌∷◌, if◌then◌else◌}
@@ -60,7 +61,7 @@ l_bit word = flag word 20
 abbrev pub pc : ℕ
 pc = 15
 
--- Shifts and operands ("Addressing Mode 1 - Data-processing operands", A5.1).
+-- Shifts and operands ("Addressing Mode 1 - Data-processing operands").
 
 -- an amount of 0 stands for a shift by 32 places to the right, and at ROR for RRX
 abbrev pub immediate_shift : ℕ → ℕ → Shift
@@ -82,8 +83,8 @@ operand_field word =
     else if flag word 4 then ByRegister (rm_field word) (field word 5 2) (rs_field word)
     else ShiftedOperand (rm_field word) (shift_field word)
 
--- Addresses ("Addressing Mode 2 - Load and Store Word or Unsigned Byte", A5.2, and "Addressing Mode 3 -
--- Miscellaneous Loads and Stores", A5.3).
+-- Addresses ("Addressing Mode 2 - Load and Store Word or Unsigned Byte" and "Addressing Mode 3 -
+-- Miscellaneous Loads and Stores").
 
 abbrev pub index_field : ℕ → Index
 index_field word = if p_bit word then (if w_bit word then BeforeBack else Before) else After
@@ -91,9 +92,8 @@ index_field word = if p_bit word then (if w_bit word then BeforeBack else Before
 abbrev pub writes_back : ℕ → Bool
 writes_back word = not (p_bit word) || w_bit word
 
--- own: the forms for user mode (P = 0 with W = 1); r15 as offset (unpredictable); a base that is written
--- back and is r15 (unpredictable), the register that is moved, or the offset (own where the manual
--- leaves it to the implementation)
+-- own: the forms for user mode (P = 0 with W = 1; unpredictable for halfwords). Unpredictable: r15 as
+-- offset; a base that is written back and is r15, the register that is moved, or the offset
 abbrev pub index_refused : ℕ → Bool → Bool
 index_refused word by_register =
     (not (p_bit word) && w_bit word)
@@ -106,7 +106,7 @@ pub data Line : Type 0 where
   Decodes : (fits refused : ℕ → Bool) (meaning : ℕ → Op) → Line
   Undefined : (fits : ℕ → Bool) → Line
 
--- "Branch and Exchange" (A4.1.10): bits 27:4 are fixed
+-- "BX" (chapter A4): bits 27:4 are fixed
 abbrev pub exchange_fits : ℕ → Bool
 exchange_fits word = field word 4 24 == 0x12FFF1
 
@@ -117,7 +117,7 @@ exchange_refused word = rm_field word == pc
 abbrev pub exchange_op : ℕ → Op
 exchange_op word = Exchange (rm_field word)
 
--- "Multiplies" (A3.5): MUL, MLA; here Rd stands at 19:16 and Rn at 15:12
+-- "Multiplies": MUL, MLA; here Rd stands at 19:16 and Rn at 15:12
 abbrev pub multiply_fits : ℕ → Bool
 multiply_fits word = (field word 22 6 == 0) && (field word 4 4 == 9)
 
@@ -130,7 +130,7 @@ multiply_refused word =
 abbrev pub multiply_op : ℕ → Op
 multiply_op word = Multiply (flag word 21) (s_bit word) (field word 16 4) (field word 12 4) (rs_field word) (rm_field word)
 
--- "Multiplies" (A3.5): UMULL, UMLAL, SMULL, SMLAL; RdHi stands at 19:16 and RdLo at 15:12
+-- "Multiplies": UMULL, UMLAL, SMULL, SMLAL; RdHi stands at 19:16 and RdLo at 15:12
 abbrev pub long_fits : ℕ → Bool
 long_fits word = (field word 23 5 == 1) && (field word 4 4 == 9)
 
@@ -143,7 +143,7 @@ long_refused word =
 abbrev pub long_op : ℕ → Op
 long_op word = Long (flag word 22) (flag word 21) (s_bit word) (field word 16 4) (field word 12 4) (rs_field word) (rm_field word)
 
--- "Load and store halfword or signed byte" (A3.11.2, A5.3): bits 6:5 are S and H
+-- "Load and store halfword or signed byte": bits 6:5 are S and H
 abbrev pub half_fits : ℕ → Bool
 half_fits word = (field word 25 3 == 0) && flag word 7 && flag word 4 && not (field word 5 2 == 0)
 
@@ -165,11 +165,11 @@ half_offset word = if flag word 22 then Bytes (16 * field word 8 4 + field word 
 abbrev pub half_op : ℕ → Op
 half_op word = Half (l_bit word) (half_kind word) (index_field word) (u_bit word) (rn_field word) (rd_field word) (half_offset word)
 
--- "Multiplies, Extra load/store instructions" (A3.2): what else has bits 7 and 4 set, SWP among it (own)
+-- "Multiplies, extra load/store instructions": what else has bits 7 and 4 set, SWP among it (own)
 abbrev pub extension_fits : ℕ → Bool
 extension_fits word = (field word 25 3 == 0) && flag word 7 && flag word 4
 
--- "Data-processing immediate", "immediate shift" and "register shift" (A3.4)
+-- "Data-processing immediate", "Data-processing immediate shift" and "Data-processing register shift"
 abbrev pub compute_fits : ℕ → Bool
 compute_fits word = field word 26 2 == 0
 
@@ -201,7 +201,7 @@ compute_refused word =
 abbrev pub compute_op : ℕ → Op
 compute_op word = Compute (opcode_field word) (s_bit word) (rn_field word) (rd_field word) (operand_field word)
 
--- "Load and store word or unsigned byte" (A3.11.1, A5.2)
+-- "Load and store word or unsigned byte"
 abbrev pub word_fits : ℕ → Bool
 word_fits word = (field word 26 2 == 1) && not (i_bit word && flag word 4)
 
@@ -218,12 +218,13 @@ word_offset word = if i_bit word then ShiftedOffset (rm_field word) (shift_field
 abbrev pub word_op : ℕ → Op
 word_op word = Word (l_bit word) (b_bit word) (index_field word) (u_bit word) (rn_field word) (rd_field word) (word_offset word)
 
--- "Load/store multiple" (A3.12, A5.4)
+-- "Load/store multiple"
 abbrev pub many_fits : ℕ → Bool
 many_fits word = field word 25 3 == 4
 
--- own: S (the registers of another mode); a store of r15. Unpredictable: an empty list, r15 as base. Own:
--- a base that is written back and stands in the list
+-- own: S (the registers of another mode); a store of r15, whose value the implementation chooses.
+-- Unpredictable: an empty list; r15 as base; a base that is written back and stands in the list (own for
+-- STM with the base as its lowest register)
 abbrev pub many_refused : ℕ → Bool
 many_refused word =
     flag word 22
@@ -235,7 +236,7 @@ many_refused word =
 abbrev pub many_op : ℕ → Op
 many_op word = Many (l_bit word) (p_bit word) (u_bit word) (w_bit word) (rn_field word) (field word 0 16)
 
--- "Branch" (A3.3, A4.1.5): a signed number of words in bits 23:0
+-- "Branch and branch with link": a signed number of words in bits 23:0
 abbrev pub branch_fits : ℕ → Bool
 branch_fits word = field word 25 3 == 5
 
@@ -245,7 +246,7 @@ branch_words word = if nat_lt (field word 0 24) (2 ^ 23) then pos (field word 0 
 abbrev pub branch_op : ℕ → Op
 branch_op word = Branch (flag word 24) (branch_words word)
 
--- what fits no line (coprocessors, software interrupts, the undefined words of A3.13) has no decoding
+-- what fits no line (coprocessors, software interrupts, undefined words) has no decoding
 abbrev pub table : List Line
 table =
     Decodes exchange_fits exchange_refused exchange_op

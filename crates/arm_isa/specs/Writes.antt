@@ -13,13 +13,13 @@ use Rattle.arm_isa.specs.declared.instruction.Offset.TheVariants.{Value as Bytes
 use Rattle.arm_isa.specs.declared.instruction.Index.{Index}
 use Rattle.arm_isa.specs.declared.instruction.Index.TheVariants.{Before, BeforeBack, After}
 
--- whether the base register gets the changed address (A5.2, A5.3)
+-- whether the base register gets the changed address (chapter A5, "Addressing Mode 2" and "Addressing Mode 3")
 abbrev pub keeps_address : Index → Bool
 keeps_address Before = false
 keeps_address BeforeBack = true
 keeps_address After = true
 
--- whether a register stands in the list of LDM or STM (A5.4): bit K stands for register K
+-- whether a register stands in the list of LDM or STM (chapter A5, "Addressing Mode 4"): bit K stands for register K
 abbrev pub is_listed : ℕ → ℕ → Bool
 is_listed list register = nat_lt register 16 && flag list register
 

@@ -16,7 +16,8 @@ pub struct Flags {
     pub v: bool,
 }
 
-/// Whether a condition, 0 to 14, passes under the flags (the manual's table of conditions, A3.2).
+/// Whether a condition, 0 to 14, passes under the flags (chapter A3 of the architecture manual, "The condition
+/// field").
 pub fn passes(cond: u8, flags: Flags) -> bool
     requires { cond ≤ 14 }
     ensures { result ≡ condition_passes cond flags }

@@ -181,6 +181,8 @@ fn half(word: u32) -> Option<Insn>
     under_condition(word, op)
 }
 
+/// Data processing. Inlined at both its calls, so that the instruction is made in registers.
+#[inline(always)]
 fn compute(word: u32) -> Option<Insn>
     ensures { result ≡ unless compute_refused compute_op word }
 {
@@ -274,6 +276,8 @@ fn shift_of(word: u32) -> Shift
     }
 }
 
+/// A load or store of a word or byte, inlined likewise.
+#[inline(always)]
 fn word_transfer(word: u32) -> Option<Insn>
     ensures { result ≡ unless word_refused word_op word }
 {
