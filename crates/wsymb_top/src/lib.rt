@@ -16,3 +16,6 @@ mod walk;
 
 pub use refusals::{Refusal, Status};
 pub use run::wsymb;
+
+#[cfg(test)]
+mod tests;
