@@ -12,6 +12,7 @@ use Rattle.report_text.specs.declared.report.Report.{Report}
 use Rattle.report_text.specs.Lines.{text_of}
 use Rattle.wsymb_top.specs.Reports.{IsOfWalk}
 use Rattle.wsymb_top.specs.Straight.{IsStraight}
+use Rattle.wsymb_top.proofs.Valuing.{kept}
 use Rattle.wsymb_top.specs.Outcomes.{HasOneHeader, IsAnswered, IsCrooked, IsDelivered, IsDescribed, IsDue, IsGivenReport, IsGivenText, IsOfInsns, IsRefusedFor, IsReported, Reading, Writing}
 use Rattle.wsymb_top.specs.Outcomes.IsDelivered.{Whole, SinkFailed, SinkFull}
 use Rattle.wsymb_top.specs.Outcomes.Outcome.{Prints, Refuses}
@@ -20,7 +21,7 @@ use Rattle.wsym_io.specs.Io.{appended}
 
 -- a report of the instructions of a straight function describes the image
 pub described : (image : ImageValue) (entry : ℕ) (insns : List Insn) (result : Result (Vec ℕ Global) Refusal) → length insns ≤ 100 → IsStraight image entry insns → IfOk result (λ text. IsOfInsns entry insns text.items) → IfOk result (λ text. IsDescribed image entry text.items)
-described image entry insns (Ok text) few straight of_insns = (of_insns.0, (insns, few, straight, of_insns.1), of_insns.2)
+described image entry insns (Ok text) few straight of_insns = (of_insns.0, kept image entry 4096 insns of_insns.0 few straight of_insns.1, of_insns.2)
 described image entry insns (Err why) few straight of_insns = tt
 
 -- and so is that of the file

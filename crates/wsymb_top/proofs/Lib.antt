@@ -1,4 +1,6 @@
 pub mod Answering
 pub mod Causes
 pub mod Numerals
+pub mod Running
+pub mod Valuing
 pub mod Walking

@@ -4,7 +4,9 @@ use Rattle.elf32_image.specs.Parts.{ImageValue}
 use Rattle.arm_isa.specs.declared.instruction.Insn.{Insn}
 use Rattle.arm_isa.specs.declared.instruction.Op.{Op}
 use Rattle.arm_isa.specs.declared.instruction.Op.TheVariants as op
-use Rattle.wsymb_top.specs.Straight.{instruction_at, goes_on, ends_well, is_plain, is_link_exchange, next_address, IsStraight, addresses_from}
+use Rattle.control_flow.specs.Instructions.{instruction_at}
+use Rattle.control_flow.specs.Points.{next_address}
+use Rattle.wsymb_top.specs.Straight.{goes_on, ends_well, is_plain, is_link_exchange, IsStraight, addresses_from}
 use Rattle.wsymb_top.specs.Steps.{StepsTo}
 use Rattle.wsymb_top.specs.declared.walk.Step.TheVariants.{On, End, Off}
 use Rattle.wsymb_top.specs.Outcomes.{IsCrooked}

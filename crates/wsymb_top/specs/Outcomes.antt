@@ -15,7 +15,8 @@ use Rattle.wsymb_top.specs.declared.refusals.Refusal.TheVariants as refusal
 use Rattle.wsymb_top.specs.Commands.{Command, Analyse, command_of, file_of}
 use Rattle.wsymb_top.specs.Refusals.{status_of, line_of}
 use Rattle.wsymb_top.specs.Straight.{IsStraight}
-use Rattle.wsymb_top.specs.Reports.{Describes, IsOfWalk}
+use Rattle.wsymb_top.specs.Headline.{IsKept}
+use Rattle.wsymb_top.specs.Reports.{IsOfWalk}
 
 -- the greatest length of a file, in bytes
 abbrev pub longest : ℕ
@@ -44,7 +45,7 @@ IsRefusedFor bytes entry refusal.FileTooLong = ⊥
 -- the report is that of the function in the file
 abbrev pub IsReportOf : List ℕ → ℕ → Report → Type 0
 IsReportOf bytes entry report =
-    HasOneHeader bytes × (image : ImageValue) × (image_of bytes ≡ Ok image) × Describes image unit_timing entry 4096 report
+    HasOneHeader bytes × (image : ImageValue) × (image_of bytes ≡ Ok image) × IsKept image unit_timing entry 4096 report
 
 -- the text is that of such a report
 abbrev pub IsReported : List ℕ → ℕ → List ℕ → Type 0
@@ -52,7 +53,7 @@ IsReported bytes entry text = (report : Report) × IsReportOf bytes entry report
 
 -- the text is that of a report of the function in the image
 abbrev pub IsDescribed : ImageValue → ℕ → List ℕ → Type 0
-IsDescribed image entry text = (report : Report) × Describes image unit_timing entry 4096 report × (text ≡ text_of report)
+IsDescribed image entry text = (report : Report) × IsKept image unit_timing entry 4096 report × (text ≡ text_of report)
 
 -- the text is that of a report of these instructions
 abbrev pub IsOfInsns : ℕ → List Insn → List ℕ → Type 0

@@ -4,7 +4,8 @@ use Rattle.elf32_image.specs.Parts.{ImageValue}
 use Rattle.arm_isa.specs.declared.instruction.Insn.{Insn}
 use Rattle.wsymb_top.specs.declared.walk.Step.{Step}
 use Rattle.wsymb_top.specs.declared.walk.Step.TheVariants.{On, End, Off}
-use Rattle.wsymb_top.specs.Straight.{instruction_at, goes_on, ends_well}
+use Rattle.control_flow.specs.Instructions.{instruction_at}
+use Rattle.wsymb_top.specs.Straight.{goes_on, ends_well}
 
 abbrev pub StepsTo : ImageValue → ℕ → Step → Type 0
 StepsTo image a (On insn) = (instruction_at image a ≡ Some insn) × IsTrue (goes_on insn)

@@ -1,23 +1,14 @@
 -- A straight function: instructions one after another, of which the last returns.
 use Rattle.std.specs.Prelude.{◌≡◌, ℕ, ◌+◌, ◌%◌, ◌^◌, ◌≤◌, ◌==◌, ◌&&◌, not, Bool, true, false, IsTrue, if◌then◌else◌, Option, Some, None, option_and_then, List, [], ◌∷◌, length}
 use Rattle.elf32_image.specs.Parts.{ImageValue}
-use Rattle.elf32_image.specs.Bytes.{is_code, word_at}
 use Rattle.arm_isa.specs.declared.instruction.Insn.{Insn}
 use Rattle.arm_isa.specs.declared.instruction.Op.{Op}
 use Rattle.arm_isa.specs.declared.instruction.Op.TheVariants as op
 use Rattle.arm_isa.specs.declared.instruction.Operand.{Operand}
 use Rattle.arm_isa.specs.declared.instruction.Operand.TheVariants as operand
-use Rattle.arm_isa.specs.Decoding.{decoding}
 use Rattle.arm_isa.specs.Writes.{writes_register}
-
--- the instruction at an address that is code
-abbrev pub instruction_at : ImageValue → ℕ → Option Insn
-instruction_at image a = if is_code image a then option_and_then decoding (word_at image a) else None
-
-abbrev pub is_constant : Operand → Bool
-is_constant (operand.Value value turned) = true
-is_constant (operand.Shifted rm shift) = false
-is_constant (operand.ByRegister rm kind rs) = false
+use Rattle.control_flow.specs.Instructions.{instruction_at, is_constant}
+use Rattle.control_flow.specs.Points.{next_address}
 
 -- data processing with a constant
 abbrev pub is_plain : Op → Bool
@@ -48,9 +39,6 @@ goes_on insn = (insn.cond == 14) && is_plain insn.op && not (writes_register ins
 -- always done, and goes to the return address
 abbrev pub ends_well : Insn → Bool
 ends_well insn = (insn.cond == 14) && is_link_exchange insn.op
-
-abbrev pub next_address : ℕ → ℕ
-next_address a = (a + 4) % 2 ^ 32
 
 -- these instructions stand from the address on; each goes on, but for the last, which ends well
 abbrev pub IsStraight : ImageValue → ℕ → List Insn → Type 0

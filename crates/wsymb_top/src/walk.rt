@@ -1,9 +1,10 @@
 ghost use Rattle.std.specs.Prelude.{◌≡◌, ◌≤◌, length, IfOk, IfSome, IfNone};
 ghost use Rattle.wsymb_top.specs.Outcomes.{IsCrooked};
-ghost use Rattle.wsymb_top.specs.Straight.{IsStraight, ends_well, goes_on, instruction_at, is_constant, is_link_exchange, is_plain};
+ghost use Rattle.wsymb_top.specs.Straight.{IsStraight, ends_well, goes_on, is_link_exchange, is_plain};
 ghost use Rattle.wsymb_top.specs.Steps.{StepsTo};
 
-use arm_isa::{Insn, Op, Operand, decode, may_write};
+use arm_isa::{Insn, Op, Operand, may_write};
+use control_flow::instruction_at;
 use elf32_image::Image;
 use sqlite_items::Items;
 use std::alloc::{AllocError, Global};
@@ -62,17 +63,6 @@ fn step_at(image: &Image, address: u32) -> Step
     }
 }
 
-/// The instruction at an address that is code.
-fn instruction_at(image: &Image, address: u32) -> Option<Insn>
-    ensures { result ≡ instruction_at image.now address }
-{
-    if image.is_code(address) {
-        decode(image.word_at(address)?)
-    } else {
-        None
-    }
-}
-
 /// Whether the next instruction follows, with the stack pointer and the return address as they were.
 fn goes_on(insn: &Insn) -> bool
     ensures { result ≡ goes_on insn.now }
@@ -96,17 +86,11 @@ fn is_plain(op: &Op) -> bool
     ensures { result ≡ is_plain op.now }
 {
     match op {
-        Op::Compute { operand, .. } => is_constant(operand),
+        Op::Compute {
+            operand: Operand::Value { .. },
+            ..
+        } => true,
         _ => false,
-    }
-}
-
-fn is_constant(operand: &Operand) -> bool
-    ensures { result ≡ is_constant operand.now }
-{
-    match operand {
-        Operand::Value { .. } => true,
-        Operand::Shifted { .. } | Operand::ByRegister { .. } => false,
     }
 }
 

@@ -1,0 +1,6 @@
+pub mod Bounds
+pub mod Effects
+pub mod Runs
+pub mod Starts
+pub mod States
+pub mod Steps

@@ -1,0 +1,281 @@
+-- A returning run along straight code costs no more than its instructions and a miss for each change of line.
+use Rattle.std.proofs.Common.{◌≡◌, ◌≢◌, ℕ, zero, suc, ◌+◌, ◌*◌, ◌/◌, ◌%◌, ◌^◌, ◌<◌, ◌≤◌, ◌==◌, ◌&&◌, not, Bool, true, false, IsTrue, cond, lit<, inl, inr, Option, Some, None, List, [], ◌∷◌, length, take, eqb, slice_index_or, slice_set, slice_index, unwrap_or, sum_by, refl, sym, ap, ◌∙◌, subst, arith, rules}
+use Rattle.std.proofs.lemmas.Bool.Decides.{eqb_tells}
+use Rattle.std.proofs.Math.Nat.{one-le-pow}
+use Rattle.std.proofs.lemmas.Bool.{eqb-true, eq-eqb, false≢true}
+use Rattle.std.proofs.lemmas.List.Sums.{sum_by-cons}
+use Rattle.std.proofs.lemmas.List.{get_or-set_other, get_or-set_same, length-set}
+use Rattle.elf32_image.specs.Parts.{ImageValue}
+use Rattle.elf32_image.specs.Bytes.{is_code, word_at}
+use Rattle.arm_isa.specs.declared.instruction.Insn.{Insn}
+use Rattle.arm_isa.specs.declared.instruction.Op.{Op}
+use Rattle.arm_isa.specs.declared.instruction.Op.TheVariants as op
+use Rattle.arm_isa.specs.declared.instruction.Operand.{Operand}
+use Rattle.arm_isa.specs.declared.conditions.Flags.{Flags}
+use Rattle.arm_isa.specs.Conditions.{condition_passes}
+use Rattle.arm_isa.specs.Decoding.{is_test}
+use Rattle.arm_isa.specs.Writes.{op_writes}
+use Rattle.fetch_timing.specs.declared.timing.Timing.{Timing}
+use Rattle.fetch_timing.specs.Timings.{cost_of, point_cost, IsWithinLimits}
+use Rattle.fetch_timing.specs.Caches.{after_fetch, fetched, holds, line_of, lines_at, penalty, without}
+use Rattle.control_flow.specs.Instructions.{instruction_at, instruction_of}
+use Rattle.control_flow.specs.Points.{next_address}
+use Rattle.arm_machine.specs.declared.stops.Stop.TheVariants as stop
+use Rattle.arm_machine.specs.States.{State, Effect, next_pc, read}
+use Rattle.arm_machine.specs.States.Effect.{Goes, Stops}
+use Rattle.arm_machine.specs.Effects.{computed, effect, jumps, operand_carry, operand_value, writes, with_flags, Sum}
+use Rattle.arm_machine.specs.Steps.{Outcome, charge, decode_at, execute, settle, step}
+use Rattle.arm_machine.specs.Steps.Outcome.{Next, Stopped}
+use Rattle.arm_machine.specs.Runs.{IfNext, Returns}
+use Rattle.wsym_terms.specs.LineUses.{is_last, lines_used}
+use Rattle.wsymb_top.specs.Reports.{geometry_of}
+use Rattle.wsymb_top.specs.Straight.{goes_on, ends_well, is_plain, is_link_exchange, IsStraight, addresses_from}
+
+first_test : (x y : Bool) → x && y ≡ true → x ≡ true
+first_test true y h = refl
+first_test false y h = h
+
+second_test : (x y : Bool) → x && y ≡ true → y ≡ true
+second_test true y h = h
+second_test false y h = cc
+
+not_true : (x : Bool) → not x ≡ true → x ≡ false
+not_true true h = sym h
+not_true false h = refl
+
+-- an instruction stands only where there is code
+code_test : (code : Bool) (found : Option Insn) (insn : Insn) → cond code found None ≡ Some insn → code ≡ true
+code_test true found insn h = refl
+code_test false found insn h = cc
+
+code_there : (image : ImageValue) (a : ℕ) (insn : Insn) → instruction_at image a ≡ Some insn → is_code image a ≡ true
+code_there image a insn found = code_test (is_code image a) _ insn found
+
+chosen : {A : Type 0} (test : Bool) (x y : A) → test ≡ true → cond test x y ≡ x
+chosen true x y h = refl
+chosen false x y h = absurd (false≢true h)
+
+refused : {A : Type 0} (test : Bool) (x y : A) → test ≡ false → cond test x y ≡ y
+refused true x y h = absurd (false≢true (sym h))
+refused false x y h = refl
+
+passes_always : (condition : ℕ) (flags : Flags) → eqb condition 14 ≡ true → condition_passes condition flags ≡ true
+passes_always condition flags always = subst (λ (k : ℕ). condition_passes k flags ≡ true) (sym (eqb-true condition 14 always)) refl
+
+-- the step of an instruction whose condition always passes
+step_there : (image : ImageValue) (t : Timing) (s : State) (insn : Insn) → instruction_at image s.pc ≡ Some insn → eqb insn.cond 14 ≡ true → step image t s ≡ charge t s insn true (effect s insn.op)
+step_there image t s insn found always =
+    chosen (is_code image s.pc) (decode_at t s (instruction_at image s.pc)) _ (code_there image s.pc insn found)
+    ∙ ap (decode_at t s) found
+    ∙ chosen (condition_passes insn.cond s.flags) (charge t s insn true (effect s insn.op)) _ (passes_always insn.cond s.flags always)
+
+-- What an instruction that goes on does: the next one follows, with register 14 and the cache as they were.
+pub record Follows (s next : State) : Type 0 where
+  pub pc : next.pc ≡ next_pc s
+  pub link : slice_index next.registers 14 ≡ slice_index s.registers 14
+  pub sets : next.sets ≡ s.sets
+
+other_register : (r k : ℕ) → eqb k r ≡ false → r ≢ k
+other_register r k differ same = absurd (false≢true (sym differ ∙ eq-eqb k r (sym same)))
+
+differs : (a b : ℕ) → a ≢ b → eqb a b ≡ false
+differs a b apart = elim (eqb_tells a b) [ inl same ↦ absurd (apart same.1) | inr other ↦ other.0 ]
+
+neither_way : (x y : Bool) → x ≡ false → not x && y ≡ false → y ≡ false
+neither_way true y off h = absurd (false≢true (sym off))
+neither_way false y off h = h
+
+settled_follows : (s : State) (test : Bool) (rd value : ℕ) → not test && eqb 14 rd ≡ false → not test && eqb 15 rd ≡ false → (next : State) × (cond test (Goes (record s { pc = next_pc s })) (writes s rd value) ≡ Goes next) × Follows s next
+settled_follows s true rd value link jump = (record s { pc = next_pc s }, refl, record { pc = refl; link = refl; sets = refl })
+settled_follows s false rd value link jump =
+    let not_pc : eqb rd 15 ≡ false = differs rd 15 (other_register rd 15 jump) in (
+      record s { registers = slice_set s.registers rd value; pc = next_pc s },
+      refused (eqb rd 15) (jumps s value) _ not_pc,
+      record { pc = refl; link = get_or-set_other s.registers rd 14 value 0 (λ e. other_register rd 14 link (sym e)); sets = refl },
+    )
+
+-- flags that are set change nothing else
+flagged : (sets : Bool) (s next : State) (sum : Sum) → Follows (with_flags sets s sum) next → Follows s next
+flagged true s next sum follows = record { pc = follows.pc; link = follows.link; sets = follows.sets }
+flagged false s next sum follows = follows
+
+plain_effect_op : (s : State) (o : Op) → is_plain o ≡ true → op_writes o 14 ≡ false → op_writes o 15 ≡ false → (next : State) × (effect s o ≡ Goes next) × Follows s next
+plain_effect_op s (op.Compute code flags rn rd operand) plain link jump =
+    let sum = computed code s.flags (operand_carry s operand) (read s rn) (operand_value s operand) in
+    let found = settled_follows (with_flags flags s sum) (is_test code) rd sum.value link jump in
+    (found.0, found.1, flagged flags s found.0 sum found.2)
+plain_effect_op s (op.Multiply add flags rd rn rs rm) plain link jump = absurd (false≢true plain)
+plain_effect_op s (op.Long signed add flags hi lo rs rm) plain link jump = absurd (false≢true plain)
+plain_effect_op s (op.Word load byte index up rn rd offset) plain link jump = absurd (false≢true plain)
+plain_effect_op s (op.Half load kind index up rn rd offset) plain link jump = absurd (false≢true plain)
+plain_effect_op s (op.Many load before up back rn list) plain link jump = absurd (false≢true plain)
+plain_effect_op s (op.Branch linked words) plain link jump = absurd (false≢true plain)
+plain_effect_op s (op.Exchange rm) plain link jump = absurd (false≢true plain)
+
+plain_effect : (s : State) (insn : Insn) → IsTrue (goes_on insn) → (next : State) × (effect s insn.op ≡ Goes next) × Follows s next
+plain_effect s insn on =
+    plain_effect_op s insn.op
+    (second_test _ _ (first_test _ _ (first_test _ _ (first_test _ _ on))))
+    (not_true _ (second_test _ _ (first_test _ _ on)))
+    (not_true _ (second_test _ _ on))
+
+always_on : (insn : Insn) → IsTrue (goes_on insn) → eqb insn.cond 14 ≡ true
+always_on insn on = first_test _ _ (first_test _ _ (first_test _ _ (first_test _ _ on)))
+
+-- the cost of an instruction that is always done
+cost_on : (t : Timing) (insn : Insn) → eqb insn.cond 14 ≡ true → cost_of t insn true ≡ point_cost t insn
+cost_on t insn always = sym (chosen (eqb insn.cond 14) _ _ always)
+
+-- The line fetched last, if any, stands in its set.
+abbrev IsFresh : Timing → List (List ℕ) → Option ℕ → Type 0
+IsFresh t sets None = Unit {0}
+IsFresh t sets (Some line) = holds line (lines_at sets (line % t.sets)) ≡ true
+
+at_most : (held : Bool) (miss : ℕ) → cond held 0 miss ≤ miss
+at_most true miss = omega arith
+at_most false miss = omega arith
+
+nothing_if_held : (same held : Bool) (miss : ℕ) → (same ≡ true → held ≡ true) → cond held 0 miss ≤ cond same 0 miss
+nothing_if_held true held miss h = subst (λ (b : Bool). cond b 0 miss ≤ 0) (sym (h refl)) (omega arith)
+nothing_if_held false held miss h = at_most held miss
+
+-- a fetch costs nothing where its line is the last, and at most a miss
+penalty_within : (t : Timing) (sets : List (List ℕ)) (last : Option ℕ) (line : ℕ) → IsFresh t sets last → penalty t sets line ≤ cond (is_last last line) 0 t.miss
+penalty_within t sets None line fresh = at_most _ t.miss
+penalty_within t sets (Some l) line fresh =
+    nothing_if_held (eqb l line) _ t.miss (λ same. subst (λ (k : ℕ). holds k (lines_at sets (k % t.sets)) ≡ true) (eqb-true l line same) fresh)
+
+front : (ways line : ℕ) (lines : List ℕ) → 1 ≤ ways → holds line (fetched ways line lines) ≡ true
+front zero line lines some = absurd (omega arith)
+front (suc ways) line lines some = chosen (eqb line line) true _ (eq-eqb line line refl)
+
+some_set : (t : Timing) → IsWithinLimits t → 0 < t.sets
+some_set t limits =
+    let power = one-le-pow limits.sets.0 2 (lit< tt) in
+    subst (λ (n : ℕ). 0 < n) (sym limits.sets.3) power
+
+-- after a fetch the line stands in its set
+fresh_after : (t : Timing) (sets : List (List ℕ)) (line : ℕ) → IsWithinLimits t → length sets ≡ t.sets → IsFresh t (after_fetch t sets line) (Some line)
+fresh_after t sets line limits all =
+    let positive = some_set t limits in
+    let place : line % t.sets < length sets = omega (arith, all) in
+    subst (λ (lines : List ℕ). holds line lines ≡ true) (sym (get_or-set_same sets (line % t.sets) (fetched t.ways line (lines_at sets (line % t.sets))) [] place))
+    (front t.ways line (lines_at sets (line % t.sets)) limits.some_way)
+
+-- what a state has when the run is at an address
+pub record IsAt (t : Timing) (a home : ℕ) (last : Option ℕ) (s : State) : Type 0 where
+  pub pc : s.pc ≡ a
+  pub link : slice_index s.registers 14 ≡ home
+  pub all : length s.sets ≡ t.sets
+  pub fresh : IsFresh t s.sets last
+
+-- the cycles of instructions and of a miss for each line that they use
+abbrev pub cycles_of : Timing → Option ℕ → ℕ → List Insn → ℕ
+cycles_of t last a insns = sum_by (point_cost t) insns + t.miss * length (lines_used (geometry_of t) last (addresses_from a insns))
+
+one_line : (same : Bool) (miss line : ℕ) (rest : List ℕ) → cond same 0 miss + miss * length rest ≡ miss * length (cond same rest (line ∷ rest))
+one_line true miss line rest = omega arith
+one_line false miss line rest = grind arith
+
+lines_more : (t : Timing) (last : Option ℕ) (a : ℕ) (addresses : List ℕ) → cond (is_last last (line_of t a)) 0 t.miss + t.miss * length (lines_used (geometry_of t) (Some (line_of t a)) addresses) ≡ t.miss * length (lines_used (geometry_of t) last (a ∷ addresses))
+lines_more t last a addresses = one_line (is_last last (line_of t a)) t.miss (line_of t a) (lines_used (geometry_of t) (Some (line_of t a)) addresses)
+
+-- the run stands at the next instruction, with its line in the cache
+next_at : (t : Timing) (a home : ℕ) (last : Option ℕ) (s next : State) → IsWithinLimits t → IsAt t a home last s → Follows s next → IsAt t (next_address a) home (Some (line_of t a)) (settle t s.pc next)
+next_at t a home last s next limits at follows =
+    let all : length next.sets ≡ t.sets = ap (λ (sets : List (List ℕ)). length sets) follows.sets ∙ at.all in
+    record {
+      pc = follows.pc ∙ ap next_address at.pc;
+      link = follows.link ∙ at.link;
+      all = length-set next.sets (line_of t s.pc % t.sets) (fetched t.ways (line_of t s.pc) (lines_at next.sets (line_of t s.pc % t.sets))) ∙ all;
+      fresh =
+          subst (λ (p : ℕ). IsFresh t (after_fetch t next.sets (line_of t s.pc)) (Some (line_of t p))) at.pc
+          (fresh_after t next.sets (line_of t s.pc) limits all);
+    }
+
+-- what is still to come of a run behind a step
+abbrev IsRest : ImageValue → Timing → ℕ → ℕ → ℕ → State → ℕ → Type 0
+IsRest image t home n c next spent = (rest : ℕ) × (c ≡ spent + rest) × Returns image t home next n rest
+
+-- a run that stands at its return address has returned
+home_already : (image : ImageValue) (t : Timing) (home : ℕ) (s : State) (n c : ℕ) → s.pc ≡ home → Returns image t home s n c → c ≡ 0
+home_already image t home s zero c there returns = returns.1
+home_already image t home s (suc n) c there returns = absurd (returns.0 there)
+
+exchange_effect : (s : State) (o : Op) → is_link_exchange o ≡ true → effect s o ≡ jumps s (slice_index s.registers 14)
+exchange_effect s (op.Compute code flags rn rd operand) exchange = absurd (false≢true exchange)
+exchange_effect s (op.Multiply add flags rd rn rs rm) exchange = absurd (false≢true exchange)
+exchange_effect s (op.Long signed add flags hi lo rs rm) exchange = absurd (false≢true exchange)
+exchange_effect s (op.Word load byte index up rn rd offset) exchange = absurd (false≢true exchange)
+exchange_effect s (op.Half load kind index up rn rd offset) exchange = absurd (false≢true exchange)
+exchange_effect s (op.Many load before up back rn list) exchange = absurd (false≢true exchange)
+exchange_effect s (op.Branch linked words) exchange = absurd (false≢true exchange)
+exchange_effect s (op.Exchange rm) exchange = ap (λ (r : ℕ). jumps s (read s r)) (eqb-true rm 14 exchange)
+
+-- a jump that doesn't stop
+jumped : (image : ImageValue) (t : Timing) (home : ℕ) (s : State) (insn : Insn) (n c value : ℕ) (test : Bool) → IfNext (charge t s insn true (cond test (Goes (record s { pc = value })) (Stops stop.Leaves))) (IsRest image t home n c) → IsRest image t home n c (settle t s.pc (record s { pc = value })) (cost_of t insn true + penalty t s.sets (line_of t s.pc))
+jumped image t home s insn n c value true run = run
+jumped image t home s insn n c value false run = absurd run
+
+regrouped : (whole cost rest lines first others : ℕ) → whole ≡ cost + rest → first + others ≡ lines → whole + lines ≡ (cost + first) + (rest + others)
+regrouped whole cost rest lines first others sums used = omega arith
+
+-- the cycles of an instruction and of those behind it
+cycles_more : (t : Timing) (last : Option ℕ) (a : ℕ) (insn : Insn) (insns : List Insn) → cycles_of t last a (insn ∷ insns) ≡ (point_cost t insn + cond (is_last last (line_of t a)) 0 t.miss) + cycles_of t (Some (line_of t a)) (next_address a) insns
+cycles_more t last a insn insns =
+    regrouped (sum_by (point_cost t) (insn ∷ insns)) (point_cost t insn) (sum_by (point_cost t) insns) _ (cond (is_last last (line_of t a)) 0 t.miss) (t.miss * length (lines_used (geometry_of t) (Some (line_of t a)) (addresses_from (next_address a) insns)))
+    (sum_by-cons (point_cost t) insn insns) (lines_more t last a (addresses_from (next_address a) insns))
+
+both_within : (cost most penalty limit : ℕ) → cost ≡ most → penalty ≤ limit → cost + penalty ≤ most + limit
+both_within cost most penalty limit same small = omega arith
+
+-- what one step costs at most
+spent_within : (t : Timing) (home : ℕ) (insn : Insn) (a : ℕ) (last : Option ℕ) (s : State) → eqb insn.cond 14 ≡ true → IsAt t a home last s → cost_of t insn true + penalty t s.sets (line_of t s.pc) ≤ point_cost t insn + cond (is_last last (line_of t a)) 0 t.miss
+spent_within t home insn a last s always at =
+    both_within (cost_of t insn true) (point_cost t insn) (penalty t s.sets (line_of t s.pc)) (cond (is_last last (line_of t a)) 0 t.miss) (cost_on t insn always)
+    (subst (λ (p : ℕ). penalty t s.sets (line_of t p) ≤ cond (is_last last (line_of t a)) 0 t.miss) (sym at.pc) (penalty_within t s.sets last (line_of t a) at.fresh))
+
+total_within : (c spent rest first others whole : ℕ) → c ≡ spent + rest → spent ≤ first → rest ≤ others → whole ≡ first + others → c ≤ whole
+total_within c spent rest first others whole sum head tail all = omega arith
+
+stepped : (image : ImageValue) (t : Timing) (home a : ℕ) (last : Option ℕ) (s : State) (insn : Insn) → instruction_at image a ≡ Some insn → eqb insn.cond 14 ≡ true → IsAt t a home last s → step image t s ≡ charge t s insn true (effect s insn.op)
+stepped image t home a last s insn found always at =
+    step_there image t s insn (subst (λ (p : ℕ). instruction_at image p ≡ Some insn) (sym at.pc) found) always
+
+-- the last instruction of a straight function
+last_within : (image : ImageValue) (t : Timing) (home : ℕ) (insn : Insn) (a : ℕ) (last : Option ℕ) (s : State) (n c : ℕ) → instruction_at image a ≡ Some insn → IsTrue (ends_well insn) → IsAt t a home last s → IfNext (step image t s) (IsRest image t home n c) → c ≤ cycles_of t last a (insn ∷ [])
+last_within image t home insn a last s n c found end at run =
+    let always : eqb insn.cond 14 ≡ true = first_test (eqb insn.cond 14) (is_link_exchange insn.op) end in
+    let exchange : is_link_exchange insn.op ≡ true = second_test (eqb insn.cond 14) (is_link_exchange insn.op) end in
+    let value = slice_index s.registers 14 in
+    let spent = cost_of t insn true + penalty t s.sets (line_of t s.pc) in
+    let others = cycles_of t (Some (line_of t a)) (next_address a) [] in
+    let way = stepped image t home a last s insn found always at ∙ ap (λ (e : Effect). charge t s insn true e) (exchange_effect s insn.op exchange) in
+    let rest : IsRest image t home n c (settle t s.pc (record s { pc = value })) spent =
+    jumped image t home s insn n c value (eqb (value % 4) 0) (subst (λ (o : Outcome). IfNext o (IsRest image t home n c)) way run) in
+    let none : rest.0 ≡ 0 = home_already image t home (settle t s.pc (record s { pc = value })) n rest.0 at.link rest.2 in
+    let small : rest.0 ≤ others = omega (arith, none) in
+    total_within c spent rest.0 (point_cost t insn + cond (is_last last (line_of t a)) 0 t.miss) others (cycles_of t last a (insn ∷ [])) rest.1
+    (spent_within t home insn a last s always at) small (cycles_more t last a insn [])
+
+-- an instruction behind which the next one follows
+first_within : (image : ImageValue) (t : Timing) (home : ℕ) (insn : Insn) (insns : List Insn) (a : ℕ) (last : Option ℕ) (s : State) (n c : ℕ) → IsWithinLimits t → instruction_at image a ≡ Some insn → IsTrue (goes_on insn) → IsAt t a home last s → ((next : State) (rest : ℕ) → IsAt t (next_address a) home (Some (line_of t a)) next → Returns image t home next n rest → rest ≤ cycles_of t (Some (line_of t a)) (next_address a) insns) → IfNext (step image t s) (IsRest image t home n c) → c ≤ cycles_of t last a (insn ∷ insns)
+first_within image t home insn insns a last s n c limits found on at later run =
+    let always = always_on insn on in
+    let done = plain_effect s insn on in
+    let way = stepped image t home a last s insn found always at ∙ ap (λ (e : Effect). charge t s insn true e) done.1 in
+    let rest : IsRest image t home n c (settle t s.pc done.0) (cost_of t insn true + penalty t s.sets (line_of t s.pc)) = subst (λ (o : Outcome). IfNext o (IsRest image t home n c)) way run in
+    total_within c (cost_of t insn true + penalty t s.sets (line_of t s.pc)) rest.0 _ _ (cycles_of t last a (insn ∷ insns)) rest.1
+    (spent_within t home insn a last s always at)
+    (later (settle t s.pc done.0) rest.0 (next_at t a home last s done.0 limits at done.2) rest.2)
+    (cycles_more t last a insn insns)
+
+-- a run that returns along straight code costs no more than its instructions and a miss for each line that they use
+pub run_within : (image : ImageValue) (t : Timing) (home : ℕ) (insns : List Insn) (a : ℕ) (last : Option ℕ) (s : State) (n c : ℕ) → IsWithinLimits t → IsStraight image a insns → IsAt t a home last s → Returns image t home s n c → c ≤ cycles_of t last a insns
+run_within image t home [] a last s n c limits straight at returns = absurd straight
+run_within image t home (insn ∷ insns) a last s zero c limits straight at returns = omega (arith, returns.1)
+run_within image t home (insn ∷ []) a last s (suc n) c limits straight at returns = last_within image t home insn a last s n c straight.0 straight.1 at returns.1
+run_within image t home (insn ∷ more ∷ insns) a last s (suc n) c limits straight at returns =
+    first_within image t home insn (more ∷ insns) a last s n c limits straight.0 straight.1 at
+    (λ next rest there run. run_within image t home (more ∷ insns) (next_address a) (Some (line_of t a)) next n rest limits straight.2 there run)
+    returns.1
