@@ -7,6 +7,7 @@ use Rattle.arm_isa.specs.declared.instruction.Operand.{Operand}
 use Rattle.arm_isa.specs.declared.instruction.Operand.TheVariants as operand
 use Rattle.arm_isa.specs.Decoding.{is_test}
 use Rattle.arm_machine.specs.declared.stops.Stop.TheVariants as stop
+use Rattle.arm_machine.specs.declared.sums.Sum.{Sum}
 use Rattle.arm_machine.specs.States.{State, Effect, read, next_pc}
 use Rattle.arm_machine.specs.States.Effect.{Goes, Stops}
 
@@ -26,11 +27,7 @@ jumps s value = if value % 4 == 0 then Goes (record s { pc = value }) else Stops
 abbrev pub writes : State → ℕ → ℕ → Effect
 writes s r value = if r == 15 then jumps s value else Goes (record s { registers = slice_set s.registers r value; pc = next_pc s })
 
--- what the arithmetic of an instruction gives (A4.1, 'Data-processing instructions')
-pub record Sum : Type 0 where
-  pub value : ℕ
-  pub carry : Bool
-  pub overflow : Bool
+-- Arithmetic gives a value, a carry and an overflow (A4.1, 'Data-processing instructions').
 
 -- a + b + carry: the carry out, and signed overflow
 abbrev pub added : ℕ → ℕ → Bool → Sum
@@ -69,24 +66,27 @@ computed code flags shifter_carry a b =
     else if code == 14 then logical flags shifter_carry (bit_and a (inverted b))  -- BIC
     else logical flags shifter_carry (inverted b)  -- MVN
 
--- the second operand (A5.1)
-abbrev pub operand_value : State → Operand → ℕ
-operand_value s (operand.Value value turned) = value
-operand_value s (operand.Shifted rm shift) = 0
-operand_value s (operand.ByRegister rm kind rs) = 0
+-- a constant operand (A5.1.3); other operands have no decoding yet
+abbrev pub constant_value : Operand → ℕ
+constant_value (operand.Value value turned) = value
+constant_value (operand.Shifted rm shift) = 0
+constant_value (operand.ByRegister rm kind rs) = 0
 
--- the shifter's carry: of a constant, the carry flag or, where its byte is rotated, bit 31
-abbrev pub operand_carry : State → Operand → Bool
-operand_carry s (operand.Value value turned) = if turned then sign value else s.flags.c
-operand_carry s (operand.Shifted rm shift) = false
-operand_carry s (operand.ByRegister rm kind rs) = false
+-- its carry: the carry flag or, where its byte is rotated, bit 31
+abbrev pub constant_carry : Flags → Operand → Bool
+constant_carry flags (operand.Value value turned) = if turned then sign value else flags.c
+constant_carry flags (operand.Shifted rm shift) = false
+constant_carry flags (operand.ByRegister rm kind rs) = false
 
 abbrev pub flags_of : Sum → Flags
 flags_of sum = record { n = sign sum.value; z = sum.value == 0; c = sum.carry; v = sum.overflow }
 
 -- with S the flags tell of the result
+abbrev pub flags_after : Bool → Flags → Sum → Flags
+flags_after sets flags sum = if sets then flags_of sum else flags
+
 abbrev pub with_flags : Bool → State → Sum → State
-with_flags sets s sum = if sets then record s { flags = flags_of sum } else s
+with_flags sets s sum = record s { flags = flags_after sets s.flags sum }
 
 -- the tests write no register
 abbrev pub settled : State → ℕ → ℕ → Sum → Effect
@@ -94,7 +94,7 @@ settled s code rd sum = if is_test code then Goes (record s { pc = next_pc s }) 
 
 abbrev pub computes : State → ℕ → Bool → ℕ → ℕ → Operand → Effect
 computes s code sets rn rd operand =
-    let sum = computed code s.flags (operand_carry s operand) (read s rn) (operand_value s operand) in
+    let sum = computed code s.flags (constant_carry s.flags operand) (read s rn) (constant_value operand) in
     settled (with_flags sets s sum) code rd sum
 
 -- BX (A4.1.10); of other words than these two kinds none is decoded yet

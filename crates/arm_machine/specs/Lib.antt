@@ -1,5 +1,6 @@
 pub mod Bounds
 pub mod Effects
+pub mod Plain
 pub mod Runs
 pub mod Starts
 pub mod States

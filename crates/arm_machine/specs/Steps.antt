@@ -32,12 +32,14 @@ abbrev pub charge : Timing → State → Insn → Bool → Effect → Outcome
 charge t s insn done (Goes next) = Next (settle t s.pc next) (cost_of t insn done + penalty t s.sets (line_of t s.pc))
 charge t s insn done (Stops stop) = Stopped stop
 
--- where its condition fails the next instruction follows
+-- where its condition fails only the next instruction follows
+abbrev pub outcome_of : State → Insn → Bool → Effect
+outcome_of s insn done = if done then effect s insn.op else Goes (record s { pc = next_pc s })
+
 abbrev pub execute : Timing → State → Insn → Outcome
 execute t s insn =
-    if condition_passes insn.cond s.flags
-    then charge t s insn true (effect s insn.op)
-    else charge t s insn false (Goes (record s { pc = next_pc s }))
+    let done = condition_passes insn.cond s.flags in
+    charge t s insn done (outcome_of s insn done)
 
 abbrev pub decode_at : Timing → State → Option Insn → Outcome
 decode_at t s None = Stopped stop.BadWord

@@ -1,7 +1,15 @@
 //! The reference machine, which every bound of a report speaks of: its state, its steps and stops, what they
-//! cost, the states in which a function starts, and its returning runs.
+//! cost, the states in which a function starts, and its returning runs. They are definitions; a small machine
+//! runs them.
 #![tactic(auto)]
 
+mod changes;
+mod plain;
 mod stops;
+mod sums;
 
-pub use stops::Stop;
+pub use plain::SmallMachine;
+pub use stops::{StepEnd, Stop};
+
+#[cfg(test)]
+mod tests;

@@ -16,3 +16,12 @@ pub enum Stop {
     /// The value that goes to pc is no multiple of 4.
     Leaves,
 }
+
+/// Why a step gives no state.
+#[derive(Clone, Copy, Debug, PartialEq, Eq)]
+pub enum StepEnd {
+    /// Memory was refused. It may come at any step.
+    Memory,
+    /// The machine stops.
+    Stop(Stop),
+}

@@ -1,4 +1,4 @@
-ghost use Rattle.std.specs.Prelude.{◌≡◌};
+ghost use Rattle.std.specs.Prelude.{◌≡◌, ◌≤◌, IfSome};
 ghost use Rattle.control_flow.specs.Instructions.{instruction_at, is_constant, is_known};
 
 use arm_isa::{Insn, Op, Operand, decode};
@@ -10,7 +10,8 @@ const ALWAYS: u8 = 14;
 /// The instruction at an address, or `None` where the address isn't code or its word has no decoding yet. It
 /// takes no memory.
 pub fn instruction_at(image: &Image, address: u32) -> Option<Insn>
-    ensures { result ≡ instruction_at image.now address }
+    ensures exact { result ≡ instruction_at image.now address }
+    ensures condition { IfSome result (λ insn. insn.cond ≤ 14) }
 {
     if !image.is_code(address) {
         return None;

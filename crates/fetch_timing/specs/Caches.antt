@@ -1,12 +1,11 @@
 -- The instruction cache: per set a list of lines, the newest first.
 use Rattle.std.specs.Prelude.{◌≡◌, ℕ, ◌+◌, ◌*◌, ◌/◌, ◌%◌, ◌==◌, ◌≤◌, Bool, true, false, if◌then◌else◌, List, [], ◌∷◌, length, take, slice_index_or, slice_set}
-use Rattle.std.specs.List.{AllByRecursion}
+use Rattle.std.specs.List.{AllByRecursion, list_any}
 use Rattle.fetch_timing.specs.declared.timing.Timing.{Timing}
 
 -- whether a line stands in a list
 abbrev pub holds : ℕ → List ℕ → Bool
-holds line [] = false
-holds line (l ∷ lines) = if l == line then true else holds line lines
+holds line lines = list_any (λ l. l == line) lines
 
 -- the other lines, in their order
 abbrev pub without : ℕ → List ℕ → List ℕ

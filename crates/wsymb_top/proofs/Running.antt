@@ -1,10 +1,11 @@
 -- A returning run along straight code costs no more than its instructions and a miss for each change of line.
-use Rattle.std.proofs.Common.{◌≡◌, ◌≢◌, ℕ, zero, suc, ◌+◌, ◌*◌, ◌/◌, ◌%◌, ◌^◌, ◌<◌, ◌≤◌, ◌==◌, ◌&&◌, not, Bool, true, false, IsTrue, cond, lit<, inl, inr, Option, Some, None, List, [], ◌∷◌, length, take, eqb, slice_index_or, slice_set, slice_index, unwrap_or, sum_by, refl, sym, ap, ◌∙◌, subst, arith, rules}
+use Rattle.std.proofs.Common.{◌≡◌, ◌≢◌, ℕ, zero, suc, ◌+◌, ◌*◌, ◌/◌, ◌%◌, ◌^◌, ◌<◌, ◌≤◌, ◌==◌, ◌&&◌, ◌||◌, not, Bool, true, false, IsTrue, cond, lit<, inl, inr, Option, Some, None, List, [], ◌∷◌, length, take, eqb, slice_index_or, slice_set, slice_index, unwrap_or, sum_by, refl, sym, ap, ◌∙◌, subst, arith, rules}
 use Rattle.std.proofs.lemmas.Bool.Decides.{eqb_tells}
 use Rattle.std.proofs.Math.Nat.{one-le-pow}
 use Rattle.std.proofs.lemmas.Bool.{eqb-true, eq-eqb, false≢true}
 use Rattle.std.proofs.lemmas.List.Sums.{sum_by-cons}
 use Rattle.std.proofs.lemmas.List.{get_or-set_other, get_or-set_same, length-set}
+use Rattle.std.specs.List.{list_any}
 use Rattle.elf32_image.specs.Parts.{ImageValue}
 use Rattle.elf32_image.specs.Bytes.{is_code, word_at}
 use Rattle.arm_isa.specs.declared.instruction.Insn.{Insn}
@@ -23,8 +24,9 @@ use Rattle.control_flow.specs.Points.{next_address}
 use Rattle.arm_machine.specs.declared.stops.Stop.TheVariants as stop
 use Rattle.arm_machine.specs.States.{State, Effect, next_pc, read}
 use Rattle.arm_machine.specs.States.Effect.{Goes, Stops}
-use Rattle.arm_machine.specs.Effects.{computed, effect, jumps, operand_carry, operand_value, writes, with_flags, Sum}
-use Rattle.arm_machine.specs.Steps.{Outcome, charge, decode_at, execute, settle, step}
+use Rattle.arm_machine.specs.Effects.{computed, constant_carry, constant_value, effect, jumps, writes, with_flags}
+use Rattle.arm_machine.specs.declared.sums.Sum.{Sum}
+use Rattle.arm_machine.specs.Steps.{Outcome, charge, decode_at, outcome_of, settle, step}
 use Rattle.arm_machine.specs.Steps.Outcome.{Next, Stopped}
 use Rattle.arm_machine.specs.Runs.{IfNext, Returns}
 use Rattle.wsym_terms.specs.LineUses.{is_last, lines_used}
@@ -67,7 +69,7 @@ step_there : (image : ImageValue) (t : Timing) (s : State) (insn : Insn) → ins
 step_there image t s insn found always =
     chosen (is_code image s.pc) (decode_at t s (instruction_at image s.pc)) _ (code_there image s.pc insn found)
     ∙ ap (decode_at t s) found
-    ∙ chosen (condition_passes insn.cond s.flags) (charge t s insn true (effect s insn.op)) _ (passes_always insn.cond s.flags always)
+    ∙ ap (λ (done : Bool). charge t s insn done (outcome_of s insn done)) (passes_always insn.cond s.flags always)
 
 -- What an instruction that goes on does: the next one follows, with register 14 and the cache as they were.
 pub record Follows (s next : State) : Type 0 where
@@ -96,12 +98,11 @@ settled_follows s false rd value link jump =
 
 -- flags that are set change nothing else
 flagged : (sets : Bool) (s next : State) (sum : Sum) → Follows (with_flags sets s sum) next → Follows s next
-flagged true s next sum follows = record { pc = follows.pc; link = follows.link; sets = follows.sets }
-flagged false s next sum follows = follows
+flagged sets s next sum follows = record { pc = follows.pc; link = follows.link; sets = follows.sets }
 
 plain_effect_op : (s : State) (o : Op) → is_plain o ≡ true → op_writes o 14 ≡ false → op_writes o 15 ≡ false → (next : State) × (effect s o ≡ Goes next) × Follows s next
 plain_effect_op s (op.Compute code flags rn rd operand) plain link jump =
-    let sum = computed code s.flags (operand_carry s operand) (read s rn) (operand_value s operand) in
+    let sum = computed code s.flags (constant_carry s.flags operand) (read s rn) (constant_value operand) in
     let found = settled_follows (with_flags flags s sum) (is_test code) rd sum.value link jump in
     (found.0, found.1, flagged flags s found.0 sum found.2)
 plain_effect_op s (op.Multiply add flags rd rn rs rm) plain link jump = absurd (false≢true plain)
@@ -147,7 +148,7 @@ penalty_within t sets (Some l) line fresh =
 
 front : (ways line : ℕ) (lines : List ℕ) → 1 ≤ ways → holds line (fetched ways line lines) ≡ true
 front zero line lines some = absurd (omega arith)
-front (suc ways) line lines some = chosen (eqb line line) true _ (eq-eqb line line refl)
+front (suc ways) line lines some = ap (λ (same : Bool). same || list_any (λ l. eqb l line) (take ways (without line lines))) (eq-eqb line line refl)
 
 some_set : (t : Timing) → IsWithinLimits t → 0 < t.sets
 some_set t limits =
