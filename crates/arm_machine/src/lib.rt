@@ -10,6 +10,7 @@ mod sums;
 
 pub use plain::SmallMachine;
 pub use stops::{StepEnd, Stop};
+pub use sums::Sum;
 
 #[cfg(test)]
 mod tests;

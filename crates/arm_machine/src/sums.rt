@@ -5,7 +5,7 @@ use arm_isa::Flags;
 
 /// What the arithmetic of an instruction gives.
 #[derive(Clone, Copy, Debug, PartialEq, Eq)]
-pub(crate) struct Sum {
+pub struct Sum {
     /// The result, modulo 2^32.
     pub value: u32,
     /// The carry out, which says 'no borrow' after a subtraction.

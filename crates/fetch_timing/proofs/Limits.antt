@@ -1,5 +1,5 @@
 -- What the limits of a timing give.
-use Rattle.std.proofs.Common.{◌≡◌, ℕ, ◌+◌, ◌*◌, ◌^◌, ◌<◌, ◌≤◌, zero, suc, refl, subst, sym, arith, List, [], ◌∷◌, slice_index, get_or, lit≤}
+use Rattle.std.proofs.Common.{ℕ, ◌+◌, ◌*◌, ◌^◌, ◌<◌, ◌≤◌, zero, suc, refl, subst, sym, arith, List, [], ◌∷◌, get_or, lit≤}
 use Rattle.std.specs.List.{AllByRecursion}
 use Rattle.std.proofs.Math.Nat.{pow-suc, mul-le-mul}
 use Rattle.fetch_timing.specs.declared.timing.Timing.{Timing}

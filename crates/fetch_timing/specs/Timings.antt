@@ -1,5 +1,5 @@
 -- Cost tables and cache geometries, and what an instruction costs by them.
-use Rattle.std.specs.Prelude.{◌≡◌, ℕ, ◌+◌, ◌*◌, ◌^◌, ◌≤◌, ◌==◌, max, Bool, true, false, if◌then◌else◌, List, [], ◌∷◌, replicate, slice_index, count_ones}
+use Rattle.std.specs.Prelude.{◌≡◌, ℕ, ◌+◌, ◌*◌, ◌^◌, ◌≤◌, ◌==◌, max, Bool, true, false, if◌then◌else◌, replicate, slice_index, count_ones}
 use Rattle.std.specs.List.{AllByRecursion}
 use Rattle.arm_isa.specs.declared.instruction.Insn.{Insn}
 use Rattle.arm_isa.specs.declared.instruction.Op.{Op}

@@ -2,11 +2,11 @@
 use Rattle.std.proofs.Common.{◌≡◌, ℕ, List, [], ◌∷◌, ◌++◌, refl, sym, ap, ◌∙◌, codes, map}
 use Rattle.std.specs.Fmt.{decimal}
 use Rattle.wsym_terms.specs.declared.trees.Use.{Use}
-use Rattle.wsym_terms.specs.declared.trees.Tree.{Tree, fold-Tree, fold-roll-Tree}
+use Rattle.wsym_terms.specs.declared.trees.Tree.{Tree, fold-roll-Tree}
 use Rattle.wsym_terms.specs.declared.trees.Tree.TheOpen.{Tree-F}
 use Rattle.wsym_terms.specs.declared.trees.Tree.TheVariants as t
 use Rattle.cost_multiset.specs.CostLists.{CostList}
-use Rattle.wsym_formula.specs.declared.terms.Term.{Term, fold-Term, fold-roll-Term}
+use Rattle.wsym_formula.specs.declared.terms.Term.{Term, fold-roll-Term}
 use Rattle.wsym_formula.specs.declared.terms.Term.TheOpen.{Term-F}
 use Rattle.wsym_formula.specs.declared.terms.Term.TheVariants as f
 use Rattle.report_text.specs.Elements.{in_brackets, spaced, leaf_text, tree_level, tree_text, costs_text, term_level, term_text}

@@ -1,10 +1,10 @@
 -- The text of a report as the texts of its parts, one after another.
-use Rattle.std.proofs.Common.{◌≡◌, ℕ, ◌+◌, ◌<◌, suc, length, drop, get_or, drop-cons, add-one, List, [], ◌∷◌, ◌++◌, refl, sym, ap, ◌∙◌, append_assoc, map}
+use Rattle.std.proofs.Common.{◌≡◌, ℕ, ◌+◌, ◌<◌, length, drop, get_or, drop-cons, add-one, List, [], ◌∷◌, ◌++◌, refl, sym, ap, ◌∙◌, append_assoc, map}
 use Rattle.wsym_terms.specs.declared.bounds.ParamRange.{ParamRange}
 use Rattle.report_text.specs.declared.report.ReportBlock.{ReportBlock}
 use Rattle.report_text.specs.declared.report.ReportLoop.{ReportLoop}
 use Rattle.report_text.specs.declared.report.Report.{Report}
-use Rattle.report_text.specs.Lines.{Line, line_bytes, lines_text, block_lines, loop_lines, lines_of, text_of}
+use Rattle.report_text.specs.Lines.{Line, line_bytes, lines_text, block_lines, loop_lines, text_of}
 use Rattle.report_text.specs.Lines.Line.{VersionLine, FunctionLine, TimingLine, ParamLine, BlockLine, LoopLine, AtomLine, RowLine, TreeLine, FormulaLine, EndLine}
 
 pub lines_text_both : (params : List ParamRange) (xs ys : List Line) → lines_text params (xs ++ ys) ≡ lines_text params xs ++ lines_text params ys

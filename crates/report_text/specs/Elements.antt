@@ -1,9 +1,7 @@
 -- How the parts of a line are written. Numbers are decimal without leading zeros, with `-` before a negative one;
 -- fields are apart by one space.
-use Rattle.std.specs.Prelude.{ℕ, zero, suc, ℤ, pos, ◌^◌, ◌-◌, ◌==◌, if◌then◌else◌, List, [], ◌∷◌, ◌++◌, Option, Some, None, false, slice_get, codes}
-use Rattle.std.specs.List.{flat_map}
+use Rattle.std.specs.Prelude.{ℕ, ◌^◌, ◌-◌, ◌==◌, if◌then◌else◌, List, [], ◌∷◌, ◌++◌, Option, Some, None, false, slice_get, codes}
 use Rattle.std.specs.Fmt.{decimal, signed_decimal, digits, padded_integral, format_spec}
-use Rattle.wsym_terms.specs.declared.names.Name.{Name}
 use Rattle.wsym_terms.specs.declared.costs.Cost.{Cost}
 use Rattle.wsym_terms.specs.declared.costs.Cost.TheVariants.{Fin, Beyond, Unbounded}
 use Rattle.wsym_terms.specs.declared.trees.Use.{Use}

@@ -1,6 +1,5 @@
 -- A report's text is the list of its lines, each ended by one line feed.
-use Rattle.std.specs.Prelude.{ℕ, ℤ, ◌+◌, List, [], ◌∷◌, ◌++◌, codes, length, map}
-use Rattle.std.specs.List.{flat_map}
+use Rattle.std.specs.Prelude.{ℕ, ◌+◌, List, [], ◌∷◌, ◌++◌, codes, length, map}
 use Rattle.std.specs.Fmt.{decimal, signed_decimal}
 use Rattle.fetch_timing.specs.declared.timing.Timing.{Timing}
 use Rattle.wsym_terms.specs.declared.bounds.ParamRange.{ParamRange}

@@ -1,6 +1,5 @@
-use Rattle.std.proofs.Common.{◌≡◌, ◌+◌, ◌++◌, [], string_bytes, drop, map}
-use Rattle.report_text.specs.Lines.{lines_text, block_lines, loop_lines}
-use Rattle.report_text.specs.Lines.Line.{ParamLine, AtomLine, RowLine}
+use Rattle.std.proofs.Common.{◌≡◌, ◌+◌, ◌++◌, string_bytes, drop}
+use Rattle.report_text.specs.Lines.{lines_text, loop_lines}
 use Rattle.report_text.proofs.writing.push_loops.Given as goal
 
 abbrev pub invariant-loop-place : goal.invariant-loop-place

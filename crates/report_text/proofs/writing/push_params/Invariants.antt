@@ -1,6 +1,6 @@
-use Rattle.std.proofs.Common.{◌≡◌, ◌+◌, ◌++◌, [], string_bytes, drop, map}
-use Rattle.report_text.specs.Lines.{lines_text, block_lines, loop_lines}
-use Rattle.report_text.specs.Lines.Line.{ParamLine, AtomLine, RowLine}
+use Rattle.std.proofs.Common.{◌≡◌, ◌++◌, [], string_bytes, drop, map}
+use Rattle.report_text.specs.Lines.{lines_text}
+use Rattle.report_text.specs.Lines.Line.{ParamLine}
 use Rattle.report_text.proofs.writing.push_params.Given as goal
 
 abbrev pub invariant-loop-param : goal.invariant-loop-param

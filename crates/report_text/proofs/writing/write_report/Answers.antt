@@ -1,4 +1,4 @@
-use Rattle.std.proofs.Common.{sym, ◌∙◌, ap, refl, ℕ, List, [], ◌++◌, string_bytes, map, Vec}
+use Rattle.std.proofs.Common.{sym, ◌∙◌, ap, ℕ, [], string_bytes, map, Vec}
 use Rattle.std.specs.declared.alloc.Global.{Global}
 use Rattle.report_text.specs.Lines.{line_bytes, lines_text, block_lines, loop_lines}
 use Rattle.report_text.specs.Lines.Line.{VersionLine, FunctionLine, TimingLine, ParamLine, RowLine, TreeLine, FormulaLine, EndLine}
