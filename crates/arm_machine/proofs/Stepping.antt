@@ -1,5 +1,5 @@
 -- Steps one after another.
-use Rattle.std.proofs.Common.{◌≡◌, ℕ, zero, suc, ◌+◌, Err, refl, sym, ap, ◌∙◌, add_assoc}
+use Rattle.std.proofs.Common.{◌≡◌, ℕ, suc, ◌+◌, Err, refl, sym, ap, ◌∙◌, add_assoc}
 use Rattle.elf32_image.specs.Parts.{ImageValue}
 use Rattle.fetch_timing.specs.declared.timing.Timing.{Timing}
 use Rattle.arm_machine.specs.declared.stops.Stop.{Stop}

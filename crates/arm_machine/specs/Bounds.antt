@@ -1,5 +1,5 @@
 -- A bound of a function's cycles.
-use Rattle.std.specs.Prelude.{ℕ, ◌≤◌, List, slice_index}
+use Rattle.std.specs.Prelude.{ℕ, List, slice_index}
 use Rattle.elf32_image.specs.Parts.{ImageValue}
 use Rattle.fetch_timing.specs.declared.timing.Timing.{Timing}
 use Rattle.wsym_terms.specs.Extents.{Extent, IsWithin}

@@ -1,9 +1,8 @@
 -- A small machine: the part of the state that the known instructions change, without memory and kept words.
-use Rattle.std.specs.Prelude.{◌≡◌, ℕ, zero, suc, ◌+◌, Bool, true, false, Option, Some, None, Result, Ok, Err, List, [], slice_set}
+use Rattle.std.specs.Prelude.{◌≡◌, ℕ, zero, suc, ◌+◌, Option, Some, None, Result, Ok, Err, List, [], slice_set}
 use Rattle.std.specs.FinMap as map
 use Rattle.std.specs.Ordering.{nat_cmp}
 use Rattle.elf32_image.specs.Parts.{ImageValue}
-use Rattle.arm_isa.specs.declared.conditions.Flags.{Flags}
 use Rattle.fetch_timing.specs.declared.timing.Timing.{Timing}
 use Rattle.arm_machine.specs.declared.plain.SmallMachine.{SmallMachine}
 use Rattle.arm_machine.specs.declared.changes.Change.{Change}

@@ -1,5 +1,5 @@
 -- The states in which a function starts.
-use Rattle.std.specs.Prelude.{◌≡◌, ◌≢◌, ℕ, ℤ, pos, ◌+◌, ◌-◌, ◌*◌, ◌%◌, ◌^◌, ◌<◌, ◌≤◌, ◌+ℤ◌, ◌-ℤ◌, neg_ℤ, ◌≤ℤ◌, Option, Some, None, List, [], ◌∷◌, length, slice_index}
+use Rattle.std.specs.Prelude.{◌≡◌, ◌≢◌, ℕ, ℤ, pos, ◌+◌, ◌-◌, ◌%◌, ◌^◌, ◌<◌, ◌≤◌, ◌+ℤ◌, neg_ℤ, ◌≤ℤ◌, Some, None, List, [], ◌∷◌, length, slice_index}
 use Rattle.std.specs.FinMap as map
 use Rattle.elf32_image.specs.Parts.{ImageValue}
 use Rattle.elf32_image.specs.Bytes.{byte_at, constant_byte_at}

@@ -1,5 +1,5 @@
 -- The state of the machine (ARM Architecture Reference Manual, chapter A2, 'Programmers' Model').
-use Rattle.std.specs.Prelude.{◌≡◌, ℕ, ℤ, pos, negsuc, ◌+◌, ◌-◌, ◌%◌, ◌^◌, ◌<◌, ◌==◌, ◌-ℤ◌, Bool, true, false, if◌then◌else◌, nat_lt, List, [], ◌∷◌, slice_index, slice_set}
+use Rattle.std.specs.Prelude.{ℕ, ℤ, pos, ◌+◌, ◌%◌, ◌^◌, ◌==◌, ◌-ℤ◌, if◌then◌else◌, nat_lt, List, slice_index}
 use Rattle.std.specs.FinMap as map
 use Rattle.std.specs.Ordering.{nat_cmp}
 use Rattle.arm_isa.specs.declared.conditions.Flags.{Flags}

@@ -1,7 +1,7 @@
 -- One step of the machine, and what it costs.
-use Rattle.std.specs.Prelude.{ℕ, ◌+◌, ◌==◌, ◌&&◌, not, Bool, true, false, if◌then◌else◌, int_lt, Option, Some, None, List, [], ◌∷◌, filter, slice_index}
+use Rattle.std.specs.Prelude.{ℕ, ◌+◌, not, Bool, if◌then◌else◌, int_lt, Option, Some, None, List, filter, slice_index}
 use Rattle.elf32_image.specs.Parts.{ImageValue}
-use Rattle.elf32_image.specs.Bytes.{is_code, word_at}
+use Rattle.elf32_image.specs.Bytes.{is_code}
 use Rattle.arm_isa.specs.declared.instruction.Insn.{Insn}
 use Rattle.arm_isa.specs.Conditions.{condition_passes}
 use Rattle.fetch_timing.specs.declared.timing.Timing.{Timing}

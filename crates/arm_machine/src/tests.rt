@@ -22,7 +22,11 @@ static TAIL: [u8; 8] = [5, 0, 0, 0, 4, 0, 0, 0];
 
 /// The file whose code at 0x8000 is these words.
 fn file_of(alloc: Global, code: &[u32]) -> Result<Vec<u8>, AllocError> {
-    let size = (code.len() as u32).wrapping_mul(4).to_le_bytes();
+    let mut size: u32 = 0;
+    for _word in code {
+        size = size.wrapping_add(4);
+    }
+    let size = size.to_le_bytes();
     let mut bytes = Vec::from_slice(alloc, &HEAD)?;
     bytes.extend_from_slice(&size)?;
     bytes.extend_from_slice(&size)?;

@@ -1,9 +1,8 @@
 -- From the report of some instructions to the report of a file, and from an outcome to each answer's cause.
-use Rattle.std.proofs.Common.{◌≡◌, ℕ, ◌≤◌, ◌⊎◌, inl, inr, List, length, Result, Ok, Err, IfOk, IfErr, IsErrOf, subst, sym, ap, ◌∙◌, arith, refl, Vec}
+use Rattle.std.proofs.Common.{◌≡◌, ℕ, ◌≤◌, ◌⊎◌, inl, inr, List, length, Result, Ok, Err, IfOk, IfErr, IsErrOf, subst, sym, ap, ◌∙◌, arith, Vec}
 use Rattle.std.specs.declared.alloc.Global.{Global}
 use Rattle.arm_isa.specs.declared.instruction.Insn.{Insn}
 use Rattle.elf32_image.specs.Parts.{ImageValue}
-use Rattle.elf32_image.specs.declared.refusal.ElfRefusal.{ElfRefusal}
 use Rattle.elf32_image.specs.Segments.{image_of}
 use Rattle.wsymb_top.specs.declared.refusals.Refusal.{Refusal}
 use Rattle.wsymb_top.specs.declared.refusals.Refusal.TheVariants as refusal

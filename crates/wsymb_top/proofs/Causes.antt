@@ -1,14 +1,14 @@
 -- From what the shelf gave to what is due for its content.
-use Rattle.std.proofs.Common.{◌≡◌, ℕ, ◌+◌, ◌≤◌, ◌<◌, List, length, take, Option, Some, None, Result, Ok, Err, IfOk, IfErr, IsErrOf, subst, sym, ◌∙◌, refl, arith, Vec}
+use Rattle.std.proofs.Common.{◌≡◌, ℕ, ◌≤◌, ◌<◌, List, length, take, Option, Some, None, Result, Ok, Err, IfOk, IfErr, subst, ◌∙◌, arith, Vec}
 use Rattle.std.proofs.lemmas.List.{take_all, length-take}
 use Rattle.std.specs.declared.alloc.Global.{Global}
 use Rattle.wsym_io.specs.Io.{File, file_bytes, IfTold}
 use Rattle.wsymb_top.specs.declared.refusals.Refusal.{Refusal}
 use Rattle.wsymb_top.specs.declared.refusals.Refusal.TheVariants as refusal
-use Rattle.wsymb_top.specs.Commands.{Command, command_of}
+use Rattle.wsymb_top.specs.Commands.{command_of}
 use Rattle.wsymb_top.specs.Commands.Command.{Analyse}
-use Rattle.wsymb_top.specs.Outcomes.{IsDue, IsGivenText, IsRefusedFor, IsReported, IsReportOf, Outcome, Reading, longest}
-use Rattle.wsymb_top.specs.Outcomes.Outcome.{Refuses, Prints}
+use Rattle.wsymb_top.specs.Outcomes.{IsDue, IsGivenText, IsRefusedFor, IsReported, IsReportOf, longest}
+use Rattle.wsymb_top.specs.Outcomes.Outcome.{Refuses}
 
 -- so many bytes are only given of a file that is too long
 pub told_long : (content : Option (List File)) (name bytes : List ℕ) → IfTold content (λ files. bytes ≡ take 67108865 (file_bytes files name)) → 67108864 < length bytes → IfTold content (λ files. longest < length (file_bytes files name))

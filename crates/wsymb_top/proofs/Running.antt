@@ -1,5 +1,5 @@
 -- A returning run along straight code costs no more than its instructions and a miss for each change of line.
-use Rattle.std.proofs.Common.{◌≡◌, ◌≢◌, ℕ, zero, suc, ◌+◌, ◌*◌, ◌/◌, ◌%◌, ◌^◌, ◌<◌, ◌≤◌, ◌==◌, ◌&&◌, ◌||◌, not, Bool, true, false, IsTrue, cond, lit<, inl, inr, Option, Some, None, List, [], ◌∷◌, length, take, eqb, slice_index_or, slice_set, slice_index, unwrap_or, sum_by, refl, sym, ap, ◌∙◌, subst, arith, rules}
+use Rattle.std.proofs.Common.{◌≡◌, ◌≢◌, ℕ, zero, suc, ◌+◌, ◌*◌, ◌%◌, ◌<◌, ◌≤◌, ◌&&◌, ◌||◌, not, Bool, true, false, IsTrue, cond, lit<, inl, inr, Option, Some, None, List, [], ◌∷◌, length, take, eqb, slice_set, slice_index, sum_by, refl, sym, ap, ◌∙◌, subst, arith}
 use Rattle.std.proofs.lemmas.Bool.Decides.{eqb_tells}
 use Rattle.std.proofs.Math.Nat.{one-le-pow}
 use Rattle.std.proofs.lemmas.Bool.{eqb-true, eq-eqb, false≢true}
@@ -7,11 +7,10 @@ use Rattle.std.proofs.lemmas.List.Sums.{sum_by-cons}
 use Rattle.std.proofs.lemmas.List.{get_or-set_other, get_or-set_same, length-set}
 use Rattle.std.specs.List.{list_any}
 use Rattle.elf32_image.specs.Parts.{ImageValue}
-use Rattle.elf32_image.specs.Bytes.{is_code, word_at}
+use Rattle.elf32_image.specs.Bytes.{is_code}
 use Rattle.arm_isa.specs.declared.instruction.Insn.{Insn}
 use Rattle.arm_isa.specs.declared.instruction.Op.{Op}
 use Rattle.arm_isa.specs.declared.instruction.Op.TheVariants as op
-use Rattle.arm_isa.specs.declared.instruction.Operand.{Operand}
 use Rattle.arm_isa.specs.declared.conditions.Flags.{Flags}
 use Rattle.arm_isa.specs.Conditions.{condition_passes}
 use Rattle.arm_isa.specs.Decoding.{is_test}
@@ -19,7 +18,7 @@ use Rattle.arm_isa.specs.Writes.{op_writes}
 use Rattle.fetch_timing.specs.declared.timing.Timing.{Timing}
 use Rattle.fetch_timing.specs.Timings.{cost_of, point_cost, IsWithinLimits}
 use Rattle.fetch_timing.specs.Caches.{after_fetch, fetched, holds, line_of, lines_at, penalty, without}
-use Rattle.control_flow.specs.Instructions.{instruction_at, instruction_of}
+use Rattle.control_flow.specs.Instructions.{instruction_at}
 use Rattle.control_flow.specs.Points.{next_address}
 use Rattle.arm_machine.specs.declared.stops.Stop.TheVariants as stop
 use Rattle.arm_machine.specs.States.{State, Effect, next_pc, read}
@@ -27,7 +26,6 @@ use Rattle.arm_machine.specs.States.Effect.{Goes, Stops}
 use Rattle.arm_machine.specs.Effects.{computed, constant_carry, constant_value, effect, jumps, writes, with_flags}
 use Rattle.arm_machine.specs.declared.sums.Sum.{Sum}
 use Rattle.arm_machine.specs.Steps.{Outcome, charge, decode_at, outcome_of, settle, step}
-use Rattle.arm_machine.specs.Steps.Outcome.{Next, Stopped}
 use Rattle.arm_machine.specs.Runs.{IfNext, Returns}
 use Rattle.wsym_terms.specs.LineUses.{is_last, lines_used}
 use Rattle.wsymb_top.specs.Reports.{geometry_of}

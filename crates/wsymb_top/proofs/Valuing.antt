@@ -1,5 +1,5 @@
 -- The formula and the tree of a straight function have one value, which bounds its returning runs.
-use Rattle.std.proofs.Common.{◌≡◌, ℕ, ℤ, zero, suc, ◌+◌, ◌*◌, ◌<◌, ◌≤◌, Bool, true, false, cond, eqb, lit≤, inl, inr, Option, Some, None, List, [], ◌∷◌, length, slice_index, sum_by, refl, sym, ap, ◌∙◌, subst, arith}
+use Rattle.std.proofs.Common.{◌≡◌, ℕ, ℤ, suc, ◌+◌, ◌*◌, ◌≤◌, Bool, true, false, cond, eqb, lit≤, Option, Some, None, List, [], ◌∷◌, length, slice_index, sum_by, refl, sym, ap, ◌∙◌, subst, arith}
 use Rattle.std.proofs.lemmas.Bool.{eqb-true}
 use Rattle.elf32_image.specs.Parts.{ImageValue}
 use Rattle.arm_isa.specs.declared.instruction.Insn.{Insn}
@@ -7,24 +7,22 @@ use Rattle.fetch_timing.specs.declared.timing.Timing.{Timing}
 use Rattle.fetch_timing.specs.Timings.{IsWithinLimits, point_cost, unit_timing}
 use Rattle.wsym_terms.specs.declared.costs.Cost.TheVariants as cost
 use Rattle.wsym_terms.specs.Extents.{Extent, IsWithin, plus}
-use Rattle.wsym_terms.specs.Extents.Extent.{Finite, Infinite}
+use Rattle.wsym_terms.specs.Extents.Extent.{Finite}
 use Rattle.wsym_terms.specs.declared.trees.Use.{Use}
-use Rattle.wsym_terms.specs.declared.trees.Tree.{Tree, fold-Tree, fold-roll-Tree}
+use Rattle.wsym_terms.specs.declared.trees.Tree.{Tree, fold-roll-Tree}
 use Rattle.wsym_terms.specs.declared.trees.Tree.TheOpen.{Tree-F}
 use Rattle.wsym_terms.specs.declared.trees.Tree.TheVariants as tree
 use Rattle.wsym_terms.specs.Trees.{Meaning, level_meaning, meaning_of, tree_value}
 use Rattle.wsym_terms.specs.LineUses.{Geometry, lines_of, lines_used, one_without, scope_from, scoped, unscoped, with_scope}
-use Rattle.cost_multiset.specs.CostLists.{CostList, prefix_sum}
-use Rattle.wsym_formula.specs.declared.terms.Term.{Term, fold-Term, fold-roll-Term}
+use Rattle.cost_multiset.specs.CostLists.{prefix_sum}
+use Rattle.wsym_formula.specs.declared.terms.Term.{Term, fold-roll-Term}
 use Rattle.wsym_formula.specs.declared.terms.Term.TheOpen.{Term-F}
 use Rattle.wsym_formula.specs.declared.terms.Term.TheVariants as term
 use Rattle.wsym_formula.specs.Terms.{block_costs, level_value, term_value}
 use Rattle.report_text.specs.declared.report.Report.{Report}
-use Rattle.arm_machine.specs.States.{State}
-use Rattle.arm_machine.specs.Starts.{IsStart}
 use Rattle.arm_machine.specs.Runs.{Returns}
-use Rattle.wsymb_top.specs.Headline.{AreInRange, IsBound, IsExact, IsKept, bounds_at, numbers_of, value_of_formula, value_of_tree}
-use Rattle.wsymb_top.specs.Reports.{IsOfWalk, geometry_of, straight_base, straight_formula, straight_tree, straight_unscoped, straight_uses}
+use Rattle.wsymb_top.specs.Headline.{IsBound, IsExact, IsKept, bounds_at, value_of_formula, value_of_tree}
+use Rattle.wsymb_top.specs.Reports.{IsOfWalk, geometry_of, straight_base, straight_unscoped, straight_uses}
 use Rattle.wsymb_top.specs.Straight.{IsStraight, addresses_from}
 use Rattle.wsymb_top.proofs.Running.{IsAt, cycles_of, run_within}
 

@@ -1,5 +1,5 @@
 -- What a call of the program may answer: which outcome is due for the words and the file, and how it is delivered.
-use Rattle.std.specs.Prelude.{◌≡◌, ◌≢◌, ℕ, ◌≤◌, ◌<◌, ◌⊎◌, List, [], ◌∷◌, Option, Some, None, Result, Ok, Err, length}
+use Rattle.std.specs.Prelude.{◌≡◌, ◌≢◌, ℕ, ◌≤◌, ◌<◌, ◌⊎◌, List, Option, Some, None, Ok, Err, length}
 use Rattle.wsym_io.specs.Io.{File, file_bytes, appended, AppendsFront, Rose, IfTold}
 use Rattle.elf32_image.specs.Parts.{ImageValue}
 use Rattle.elf32_image.specs.Header.{header_of}

@@ -1,5 +1,5 @@
 -- What a step of the walk says of the instruction at an address.
-use Rattle.std.specs.Prelude.{◌≡◌, ℕ, Bool, false, IsTrue, Some}
+use Rattle.std.specs.Prelude.{◌≡◌, ℕ, false, IsTrue, Some}
 use Rattle.elf32_image.specs.Parts.{ImageValue}
 use Rattle.arm_isa.specs.declared.instruction.Insn.{Insn}
 use Rattle.wsymb_top.specs.declared.walk.Step.{Step}

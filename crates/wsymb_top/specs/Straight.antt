@@ -1,11 +1,9 @@
 -- A straight function: instructions one after another, of which the last returns.
-use Rattle.std.specs.Prelude.{◌≡◌, ℕ, ◌+◌, ◌%◌, ◌^◌, ◌≤◌, ◌==◌, ◌&&◌, not, Bool, true, false, IsTrue, if◌then◌else◌, Option, Some, None, option_and_then, List, [], ◌∷◌, length}
+use Rattle.std.specs.Prelude.{◌≡◌, ℕ, ◌==◌, ◌&&◌, not, Bool, false, IsTrue, Some, List, [], ◌∷◌}
 use Rattle.elf32_image.specs.Parts.{ImageValue}
 use Rattle.arm_isa.specs.declared.instruction.Insn.{Insn}
 use Rattle.arm_isa.specs.declared.instruction.Op.{Op}
 use Rattle.arm_isa.specs.declared.instruction.Op.TheVariants as op
-use Rattle.arm_isa.specs.declared.instruction.Operand.{Operand}
-use Rattle.arm_isa.specs.declared.instruction.Operand.TheVariants as operand
 use Rattle.arm_isa.specs.Writes.{writes_register}
 use Rattle.control_flow.specs.Instructions.{instruction_at, is_constant}
 use Rattle.control_flow.specs.Points.{next_address}

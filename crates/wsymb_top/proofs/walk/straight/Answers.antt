@@ -1,4 +1,4 @@
-use Rattle.std.proofs.Common.{◌≡◌, ◌+◌, length, length-append, arith}
+use Rattle.std.proofs.Common.{length-append, arith}
 use Rattle.arm_isa.specs.declared.instruction.Insn.{Insn}
 use Rattle.wsymb_top.proofs.Walking.{passed_more, passed_end, passed_off, passed_all}
 use Rattle.wsymb_top.proofs.walk.straight.Goals as goal
