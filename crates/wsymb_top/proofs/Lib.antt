@@ -1,5 +1,6 @@
 pub mod Answering
 pub mod Causes
+pub mod Deciding
 pub mod Numerals
 pub mod Running
 pub mod Valuing

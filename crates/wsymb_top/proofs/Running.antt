@@ -51,11 +51,11 @@ code_test false found insn h = cc
 code_there : (image : ImageValue) (a : ℕ) (insn : Insn) → instruction_at image a ≡ Some insn → is_code image a ≡ true
 code_there image a insn found = code_test (is_code image a) _ insn found
 
-chosen : {A : Type 0} (test : Bool) (x y : A) → test ≡ true → cond test x y ≡ x
+pub chosen : {A : Type 0} (test : Bool) (x y : A) → test ≡ true → cond test x y ≡ x
 chosen true x y h = refl
 chosen false x y h = absurd (false≢true h)
 
-refused : {A : Type 0} (test : Bool) (x y : A) → test ≡ false → cond test x y ≡ y
+pub refused : {A : Type 0} (test : Bool) (x y : A) → test ≡ false → cond test x y ≡ y
 refused true x y h = absurd (false≢true (sym h))
 refused false x y h = refl
 
@@ -78,7 +78,7 @@ pub record Follows (s next : State) : Type 0 where
 other_register : (r k : ℕ) → eqb k r ≡ false → r ≢ k
 other_register r k differ same = absurd (false≢true (sym differ ∙ eq-eqb k r (sym same)))
 
-differs : (a b : ℕ) → a ≢ b → eqb a b ≡ false
+pub differs : (a b : ℕ) → a ≢ b → eqb a b ≡ false
 differs a b apart = elim (eqb_tells a b) [ inl same ↦ absurd (apart same.1) | inr other ↦ other.0 ]
 
 neither_way : (x y : Bool) → x ≡ false → not x && y ≡ false → y ≡ false

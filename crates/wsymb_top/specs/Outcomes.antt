@@ -126,3 +126,20 @@ IsAnswered words reading writing result =
 -- the text of a report that is due was appended, and nothing else
 abbrev pub IsGivenReport : List (List ℕ) → Reading → Option (List ℕ) → Option (List ℕ) → Type 0
 IsGivenReport words reading old new = (report : Report) × IsDue words reading (Prints report) × (new ≡ appended old (text_of report))
+
+-- an outcome that the words and the file's bytes alone decide
+abbrev pub IsFixed : Outcome → Type 0
+IsFixed (Refuses refusal.Memory) = ⊥
+IsFixed (Refuses refusal.ReadFault) = ⊥
+IsFixed (Refuses refusal.Usage) = Unit {0}
+IsFixed (Refuses refusal.FileTooLong) = Unit {0}
+IsFixed (Refuses refusal.NotElf32Arm) = Unit {0}
+IsFixed (Refuses refusal.Truncated) = Unit {0}
+IsFixed (Refuses refusal.NotStraight) = Unit {0}
+IsFixed (Prints report) = Unit {0}
+
+-- But for want of memory (1), a fault of reading (3) and one of writing (4), the status is that of each outcome that the words
+-- and the file's bytes decide.
+abbrev pub IsOnly : List (List ℕ) → Reading → ℕ → Type 0
+IsOnly words reading result =
+    (result ≡ 1) ⊎ ((result ≡ 3) ⊎ ((result ≡ 4) ⊎ ((outcome : Outcome) → IsFixed outcome → IsDue words reading outcome → result ≡ outcome_status outcome)))

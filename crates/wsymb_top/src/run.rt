@@ -2,7 +2,7 @@ ghost use Rattle.std.specs.Prelude.{◌≡◌, ◌≤◌, ◌<◌, ◌⊎◌, �
 ghost use Rattle.wsym_io.specs.Io.{IfTold, Rose, appended, file_bytes};
 ghost use Rattle.wsymb_top.specs.Commands.{command_of};
 ghost use Rattle.wsymb_top.specs.Refusals.{line_of};
-ghost use Rattle.wsymb_top.specs.Outcomes.{HasReadFault, IsAnswered, IsDue, IsGivenReport, IsGivenText, Outcome, Reading, Writing, longest};
+ghost use Rattle.wsymb_top.specs.Outcomes.{HasReadFault, IsAnswered, IsDue, IsGivenReport, IsGivenText, IsOnly, Outcome, Reading, Writing, longest};
 
 use crate::analysis::report_of_file;
 use crate::commands::asked;
@@ -29,6 +29,10 @@ pub fn wsymb<F: Shelf, K: Sink>(
     ensures answered { IsAnswered (map string_bytes words.now.items)
         (record { content = F.content shelf.old; before = F.faults shelf.old; after = F.faults shelf.new })
         (record { contents = K.contents out.old; new = K.contents out.new; before = K.faults out.old; after = K.faults out.new }) result }
+
+    // And no other: but for 1, 3 and 4 the words and the file's bytes decide the status.
+    ensures only { IfTold (F.content shelf.old) (λ files. IsOnly (map string_bytes words.now.items)
+        (record { content = F.content shelf.old; before = F.faults shelf.old; after = F.faults shelf.new }) result) }
 
     // What each status says, and what is written with it.
     ensures report { result ≡ 0 → IsGivenReport (map string_bytes words.now.items)

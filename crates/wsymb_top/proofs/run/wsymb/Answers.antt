@@ -3,6 +3,7 @@ use Rattle.std.specs.declared.alloc.Global.{Global}
 use Rattle.wsymb_top.specs.Outcomes.{IsDue, IsGivenText, IsDelivered, Reading, Writing}
 use Rattle.wsymb_top.specs.Outcomes.Outcome.{Refuses}
 use Rattle.wsymb_top.proofs.Answering.{answered_text, answered_refusal, report_of_answer}
+use Rattle.wsymb_top.proofs.Deciding.{only}
 use Rattle.wsymb_top.proofs.run.wsymb.Goals as goal
 
 pub returns-in-Ok-clause-answered : goal.returns-in-Ok-clause-answered
@@ -28,3 +29,15 @@ returns-in-Err-clause-answered g c =
     answered_refusal (map string_bytes c.args.words.now.items) reading writing c.in-Err.why c.line.result.now c.status.result c.deliver-in-Err.result
     (subst (λ (words : List (String Global)). IsDue (map string_bytes words) reading (Refuses c.in-Err.why)) c.as_slice.ensures.value c.in-Err.ensures.refused)
     c.line.ensures c.status.ensures c.deliver-in-Err.ensures.delivered
+
+pub returns-in-Ok-clause-only : goal.returns-in-Ok-clause-only
+returns-in-Ok-clause-only g c =
+    only (map string_bytes c.args.words.now.items) (g.F.Shelf.content c.args.shelf.now) (g.F.Shelf.faults c.args.shelf.now) (g.F.Shelf.faults c.answer.new.shelf)
+    (record { contents = g.K.Sink.contents c.args.out.now; new = g.K.Sink.contents c.deliver.new.out; before = g.K.Sink.faults c.args.out.now; after = g.K.Sink.faults c.deliver.new.out })
+    c.deliver.result (returns-in-Ok-clause-answered g c)
+
+pub returns-in-Err-clause-only : goal.returns-in-Err-clause-only
+returns-in-Err-clause-only g c =
+    only (map string_bytes c.args.words.now.items) (g.F.Shelf.content c.args.shelf.now) (g.F.Shelf.faults c.args.shelf.now) (g.F.Shelf.faults c.answer.new.shelf)
+    (record { contents = g.K.Sink.contents c.args.out.now; new = g.K.Sink.contents c.deliver-in-Err.new.out; before = g.K.Sink.faults c.args.out.now; after = g.K.Sink.faults c.deliver-in-Err.new.out })
+    c.deliver-in-Err.result (returns-in-Err-clause-answered g c)
