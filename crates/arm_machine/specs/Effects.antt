@@ -1,10 +1,13 @@
 -- What a done instruction does to the state.
-use Rattle.std.specs.Prelude.{ℕ, ◌+◌, ◌-◌, ◌%◌, ◌^◌, ◌==◌, ◌&&◌, ◌||◌, not, nat_le, bit_and, bit_or, bit_xor, Bool, true, false, if◌then◌else◌, slice_set}
+use Rattle.std.specs.Prelude.{ℕ, ◌+◌, ◌-◌, ◌*◌, ◌/◌, ◌%◌, ◌^◌, ◌==◌, ◌&&◌, ◌||◌, not, nat_le, bit_and, bit_or, bit_xor, Bool, true, false, if◌then◌else◌, slice_set}
+use Rattle.std.specs.Int.{rotate_right, w32}
 use Rattle.arm_isa.specs.declared.conditions.Flags.{Flags}
 use Rattle.arm_isa.specs.declared.instruction.Op.{Op}
 use Rattle.arm_isa.specs.declared.instruction.Op.TheVariants as op
 use Rattle.arm_isa.specs.declared.instruction.Operand.{Operand}
 use Rattle.arm_isa.specs.declared.instruction.Operand.TheVariants as operand
+use Rattle.arm_isa.specs.declared.instruction.Shift.{Shift}
+use Rattle.arm_isa.specs.declared.instruction.Shift.TheVariants as shift
 use Rattle.arm_isa.specs.Decoding.{is_test}
 use Rattle.arm_machine.specs.declared.stops.Stop.TheVariants as stop
 use Rattle.arm_machine.specs.declared.sums.Sum.{Sum}
@@ -66,17 +69,39 @@ computed code flags shifter_carry a b =
     else if code == 14 then logical flags shifter_carry (bit_and a (inverted b))  -- BIC
     else logical flags shifter_carry (inverted b)  -- MVN
 
--- a constant operand (A5.1.3); other operands have no decoding yet
-abbrev pub constant_value : Operand → ℕ
-constant_value (operand.Value value turned) = value
-constant_value (operand.Shifted rm shift) = 0
-constant_value (operand.ByRegister rm kind rs) = 0
+-- The second operand (A5.1): a constant, or a register shifted by a constant amount. Shifts by a register have no decoding yet.
+-- To the right by 32 all bits leave; a negative word fills with ones.
+abbrev pub to_the_right : ℕ → ℕ → ℕ
+to_the_right w amount = if amount == 32 then 0 else w / 2 ^ amount
 
--- its carry: the carry flag or, where its byte is rotated, bit 31
-abbrev pub constant_carry : Flags → Operand → Bool
-constant_carry flags (operand.Value value turned) = if turned then sign value else flags.c
-constant_carry flags (operand.Shifted rm shift) = false
-constant_carry flags (operand.ByRegister rm kind rs) = false
+abbrev pub shift_value : Bool → ℕ → Shift → ℕ
+shift_value carry w (shift.Lsl amount) = w * 2 ^ amount % 2 ^ 32
+shift_value carry w (shift.Lsr amount) = to_the_right w amount
+shift_value carry w (shift.Asr amount) = if sign w then inverted (to_the_right (inverted w) amount) else to_the_right w amount
+shift_value carry w (shift.Ror amount) = rotate_right w32 w amount
+shift_value carry w shift.Rrx = w / 2 + (if carry then 2 ^ 31 else 0)
+
+abbrev pub bit : ℕ → ℕ → Bool
+bit w place = w / 2 ^ place % 2 == 1
+
+-- the bit that leaves last; nothing leaves by LSL of 0
+abbrev pub shift_carry : Bool → ℕ → Shift → Bool
+shift_carry carry w (shift.Lsl amount) = if amount == 0 then carry else bit w (32 - amount)
+shift_carry carry w (shift.Lsr amount) = bit w (amount - 1)
+shift_carry carry w (shift.Asr amount) = bit w (amount - 1)
+shift_carry carry w (shift.Ror amount) = sign (rotate_right w32 w amount)
+shift_carry carry w shift.Rrx = w % 2 == 1
+
+abbrev pub operand_value : State → Operand → ℕ
+operand_value s (operand.Value value turned) = value
+operand_value s (operand.Shifted rm by) = shift_value s.flags.c (read s rm) by
+operand_value s (operand.ByRegister rm kind rs) = 0
+
+-- the carry of a constant is the carry flag or, where its byte is rotated, bit 31
+abbrev pub operand_carry : State → Operand → Bool
+operand_carry s (operand.Value value turned) = if turned then sign value else s.flags.c
+operand_carry s (operand.Shifted rm by) = shift_carry s.flags.c (read s rm) by
+operand_carry s (operand.ByRegister rm kind rs) = false
 
 abbrev pub flags_of : Sum → Flags
 flags_of sum = record { n = sign sum.value; z = sum.value == 0; c = sum.carry; v = sum.overflow }
@@ -94,7 +119,7 @@ settled s code rd sum = if is_test code then Goes (record s { pc = next_pc s }) 
 
 abbrev pub computes : State → ℕ → Bool → ℕ → ℕ → Operand → Effect
 computes s code sets rn rd operand =
-    let sum = computed code s.flags (constant_carry s.flags operand) (read s rn) (constant_value operand) in
+    let sum = computed code s.flags (operand_carry s operand) (read s rn) (operand_value s operand) in
     settled (with_flags sets s sum) code rd sum
 
 -- BX (A4.1.10); of other words than these two kinds none is decoded yet

@@ -1,9 +1,11 @@
 ghost use Rattle.std.specs.Prelude.{◌≡◌, IfOk, IfErr};
-ghost use Rattle.arm_machine.specs.Effects.{computes, constant_carry, constant_value, effect, flags_after, jumps};
+ghost use Rattle.arm_machine.specs.Effects.{computes, effect, flags_after, jumps, operand_carry, operand_value};
+ghost use Rattle.arm_isa.specs.Ranges.{IsInsn, IsOp, IsOperand};
 ghost use Rattle.arm_machine.specs.Steps.{outcome_of};
 ghost use Rattle.arm_machine.specs.Plain.{Changes, changed, state_of};
 
 use crate::plain::SmallMachine;
+use crate::shifts::{shift_carry, shift_value};
 use crate::stops::Stop;
 use crate::sums::{Sum, computed, flags_of, sign};
 use arm_isa::{Flags, Insn, Op, Operand};
@@ -30,6 +32,7 @@ pub(crate) struct Change {
 
 /// What an instruction changes, done or skipped, or why the machine stops.
 pub(crate) fn outcome_of(machine: &SmallMachine, insn: Insn, done: bool) -> Result<Change, Stop>
+    requires { IsInsn insn }
     ensures { Changes (outcome_of (state_of machine.now) insn done) (state_of machine.now) result }
 {
     if done {
@@ -45,6 +48,7 @@ pub(crate) fn outcome_of(machine: &SmallMachine, insn: Insn, done: bool) -> Resu
 
 /// What a done instruction changes, or why the machine stops.
 fn effect(machine: &SmallMachine, op: Op) -> Result<Change, Stop>
+    requires { IsOp op }
     ensures { Changes (effect (state_of machine.now) op) (state_of machine.now) result }
 {
     match op {
@@ -68,15 +72,16 @@ fn computes(
     rd: u8,
     operand: Operand,
 ) -> Result<Change, Stop>
+    requires { IsOperand operand }
     ensures { Changes (computes (state_of machine.now) code sets rn rd operand) (state_of machine.now) result }
 {
-    let carry = operand_carry(machine.flags, operand);
+    let carry = operand_carry(machine, operand);
     let sum = computed(
         code,
         machine.flags,
         carry,
         machine.read(rn),
-        operand_value(operand),
+        operand_value(machine, operand),
     );
     let flags = flags_after(sets, machine.flags, sum);
     if 8 <= code && code <= 11 {
@@ -122,21 +127,25 @@ fn jumps(machine: &SmallMachine, flags: Flags, value: u32) -> Result<Change, Sto
 }
 
 /// The value of the second operand.
-fn operand_value(operand: Operand) -> u32
-    ensures { result ≡ constant_value operand }
+fn operand_value(machine: &SmallMachine, operand: Operand) -> u32
+    requires { IsOperand operand }
+    ensures { result ≡ operand_value (state_of machine.now) operand }
 {
     match operand {
         Operand::Value { value, .. } => value,
-        _ => 0,
+        Operand::Shifted { rm, shift } => shift_value(machine.flags.c, machine.read(rm), shift),
+        Operand::ByRegister { .. } => 0,
     }
 }
 
 /// The shifter's carry.
-fn operand_carry(flags: Flags, operand: Operand) -> bool
-    ensures { result ≡ constant_carry flags operand }
+fn operand_carry(machine: &SmallMachine, operand: Operand) -> bool
+    requires { IsOperand operand }
+    ensures { result ≡ operand_carry (state_of machine.now) operand }
 {
     match operand {
-        Operand::Value { value, turned } => if turned { sign(value) } else { flags.c },
-        _ => false,
+        Operand::Value { value, turned } => { if turned { sign(value) } else { machine.flags.c } }
+        Operand::Shifted { rm, shift } => shift_carry(machine.flags.c, machine.read(rm), shift),
+        Operand::ByRegister { .. } => false,
     }
 }

@@ -5,6 +5,7 @@
 
 mod changes;
 mod plain;
+mod shifts;
 mod stops;
 mod sums;
 

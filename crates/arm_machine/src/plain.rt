@@ -1,4 +1,5 @@
 ghost use Rattle.std.specs.Prelude.{◌≡◌, ◌≤◌, IfOk, OnErr, slice_set};
+ghost use Rattle.arm_isa.specs.Ranges.{IsInsn};
 ghost use Rattle.fetch_timing.specs.Caches.{fetched, lines_at, penalty};
 ghost use Rattle.fetch_timing.specs.Timings.{IsWithinLimits};
 ghost use Rattle.arm_machine.specs.Plain.{Answers, changed, state_of, steps, with_write};
@@ -94,7 +95,7 @@ impl SmallMachine {
     /// Executes an instruction.
     fn execute(&mut self, alloc: Global, timing: &Timing, insn: Insn) -> Result<u64, StepEnd>
         requires limits { IsWithinLimits timing.now }
-        requires condition { insn.cond ≤ 14 }
+        requires ranges { IsInsn insn }
         ensures answer { Answers (execute timing.now (state_of self.old) insn) self.new result }
         ensures stays { OnErr result (self.new ≡ self.old) }
         ensures limit { IfOk result (λ cycles. cycles ≤ 18000000) }

@@ -81,7 +81,8 @@ fn subtracted(a: u32, b: u32, carry: bool) -> Sum
     added(a, inverted(b), carry)
 }
 
-fn inverted(word: u32) -> u32
+/// All bits turned.
+pub(crate) fn inverted(word: u32) -> u32
     ensures { result ≡ inverted word }
 {
     u32::MAX - word

@@ -9,14 +9,15 @@ use Rattle.arm_isa.specs.declared.instruction.Operand.{Operand}
 use Rattle.arm_isa.specs.declared.instruction.Operand.TheVariants as operand
 use Rattle.arm_isa.specs.Decoding.{decoding}
 
-abbrev pub is_constant : Operand → Bool
-is_constant (operand.Value value turned) = true
-is_constant (operand.Shifted rm shift) = false
-is_constant (operand.ByRegister rm kind rs) = false
+-- a constant, or a register shifted by a constant amount
+abbrev pub is_immediate : Operand → Bool
+is_immediate (operand.Value value turned) = true
+is_immediate (operand.Shifted rm shift) = true
+is_immediate (operand.ByRegister rm kind rs) = false
 
--- data processing with a constant, and BX
+-- data processing without shifts by a register, and BX
 abbrev pub is_known_op : Op → Bool
-is_known_op (op.Compute code flags rn rd operand) = is_constant operand
+is_known_op (op.Compute code flags rn rd operand) = is_immediate operand
 is_known_op (op.Multiply add flags rd rn rs rm) = false
 is_known_op (op.Long signed add flags hi lo rs rm) = false
 is_known_op (op.Word load byte index up rn rd offset) = false

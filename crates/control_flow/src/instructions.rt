@@ -1,5 +1,6 @@
-ghost use Rattle.std.specs.Prelude.{◌≡◌, ◌≤◌, IfSome};
-ghost use Rattle.control_flow.specs.Instructions.{instruction_at, is_constant, is_known};
+ghost use Rattle.std.specs.Prelude.{◌≡◌, IfSome};
+ghost use Rattle.arm_isa.specs.Ranges.{IsInsn};
+ghost use Rattle.control_flow.specs.Instructions.{instruction_at, is_immediate, is_known};
 
 use arm_isa::{Insn, Op, Operand, decode};
 use elf32_image::Image;
@@ -11,7 +12,7 @@ const ALWAYS: u8 = 14;
 /// takes no memory.
 pub fn instruction_at(image: &Image, address: u32) -> Option<Insn>
     ensures exact { result ≡ instruction_at image.now address }
-    ensures condition { IfSome result (λ insn. insn.cond ≤ 14) }
+    ensures ranges { IfSome result IsInsn }
 {
     if !image.is_code(address) {
         return None;
@@ -20,23 +21,24 @@ pub fn instruction_at(image: &Image, address: u32) -> Option<Insn>
     if is_known(&insn) { Some(insn) } else { None }
 }
 
-/// Whether the analysis knows this instruction: data processing with a constant, and BX, done in any case.
+/// Whether the analysis knows this instruction: data processing without shifts by a register, and BX,
+/// done in any case.
 fn is_known(insn: &Insn) -> bool
     ensures { result ≡ is_known insn.now }
 {
     insn.cond == ALWAYS
         && match &insn.op {
-            Op::Compute { operand, .. } => is_constant(operand),
+            Op::Compute { operand, .. } => is_immediate(operand),
             Op::Exchange { .. } => true,
             _ => false,
         }
 }
 
-fn is_constant(operand: &Operand) -> bool
-    ensures { result ≡ is_constant operand.now }
+fn is_immediate(operand: &Operand) -> bool
+    ensures { result ≡ is_immediate operand.now }
 {
     match operand {
-        Operand::Value { .. } => true,
-        Operand::Shifted { .. } | Operand::ByRegister { .. } => false,
+        Operand::Value { .. } | Operand::Shifted { .. } => true,
+        Operand::ByRegister { .. } => false,
     }
 }

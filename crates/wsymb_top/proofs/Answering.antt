@@ -12,10 +12,9 @@ use Rattle.report_text.specs.Lines.{text_of}
 use Rattle.wsymb_top.specs.Reports.{IsOfWalk}
 use Rattle.wsymb_top.specs.Straight.{IsStraight}
 use Rattle.wsymb_top.proofs.Valuing.{kept}
-use Rattle.wsymb_top.specs.Outcomes.{HasOneHeader, IsAnswered, IsCrooked, IsDelivered, IsDescribed, IsDue, IsGivenReport, IsGivenText, IsOfInsns, IsRefusedFor, IsReported, Reading, Writing}
+use Rattle.wsymb_top.specs.Outcomes.{HasOneHeader, IsAnswered, IsDelivered, IsDescribed, IsDue, IsGivenReport, IsGivenText, IsOfInsns, IsRefused, IsRefusedByWalk, IsRefusedFor, IsReported, Reading, Writing}
 use Rattle.wsymb_top.specs.Outcomes.IsDelivered.{Whole, SinkFailed, SinkFull}
 use Rattle.wsymb_top.specs.Outcomes.Outcome.{Prints, Refuses}
-use Rattle.wsymb_top.specs.Refusals.{line_of, status_of}
 use Rattle.wsym_io.specs.Io.{appended}
 
 -- a report of the instructions of a straight function describes the image
@@ -28,11 +27,21 @@ pub reported : (bytes : List ℕ) (image : ImageValue) (entry : ℕ) (result : R
 reported bytes image entry (Ok text) one is described = (described.0, (one, image, is, described.1), described.2)
 reported bytes image entry (Err why) one is described = tt
 
+why_of : (bytes : List ℕ) (image : ImageValue) (entry : ℕ) (why : Refusal) → HasOneHeader bytes → image_of bytes ≡ Ok image → IsRefusedByWalk image entry why → IsRefusedFor bytes entry why
+why_of bytes image entry refusal.Memory one is cause = tt
+why_of bytes image entry refusal.NotStraight one is cause = inr (one, image, is, cause)
+why_of bytes image entry (refusal.UnknownWord a) one is cause = (one, image, is, cause)
+why_of bytes image entry (refusal.OutsideCode a) one is cause = (one, image, is, cause)
+why_of bytes image entry refusal.NotElf32Arm one is cause = absurd cause
+why_of bytes image entry refusal.Truncated one is cause = absurd cause
+why_of bytes image entry refusal.Usage one is cause = absurd cause
+why_of bytes image entry refusal.ReadFault one is cause = absurd cause
+why_of bytes image entry refusal.FileTooLong one is cause = absurd cause
+
 -- why an image has no report is why its file has none
-pub refused_for : (bytes : List ℕ) (image : ImageValue) (entry : ℕ) (result : Result (Vec ℕ Global) Refusal) → HasOneHeader bytes → image_of bytes ≡ Ok image → (IsErrOf result refusal.NotStraight → IsCrooked image entry) → IfErr result (λ why. (why ≡ refusal.Memory) ⊎ (why ≡ refusal.NotStraight)) → IfErr result (λ why. IsRefusedFor bytes entry why)
-refused_for bytes image entry (Ok text) one is crooked either = tt
-refused_for bytes image entry (Err why) one is crooked (inl memory) = subst (λ (r : Refusal). IsRefusedFor bytes entry r) (sym memory) tt
-refused_for bytes image entry (Err why) one is crooked (inr bent) = subst (λ (r : Refusal). IsRefusedFor bytes entry r) (sym bent) (inr (one, image, is, crooked (cc)))
+pub refused_for : (bytes : List ℕ) (image : ImageValue) (entry : ℕ) (result : Result (Vec ℕ Global) Refusal) → HasOneHeader bytes → image_of bytes ≡ Ok image → IfErr result (λ why. IsRefusedByWalk image entry why) → IfErr result (λ why. IsRefusedFor bytes entry why)
+refused_for bytes image entry (Ok text) one is cause = tt
+refused_for bytes image entry (Err why) one is cause = why_of bytes image entry why one is cause
 
 -- the text of the report of some instructions
 pub of_report : (entry : ℕ) (insns : List Insn) (report : Report) (result : Result (Vec ℕ Global) Refusal) → IsOfWalk unit_timing entry 4096 insns report → IfOk result (λ text. text.items ≡ text_of report) → IfOk result (λ text. IsOfInsns entry insns text.items)
@@ -44,10 +53,10 @@ pub answered_text : (words : List (List ℕ)) (reading : Reading) (writing : Wri
 answered_text words reading writing text result given delivered =
     (Prints given.0, given.1, subst (λ (t : List ℕ). IsDelivered t 0 writing result) given.2 delivered)
 
--- and so is the line of a refusal that is due
-pub answered_refusal : (words : List (List ℕ)) (reading : Reading) (writing : Writing) (why : Refusal) (line : List ℕ) (status result : ℕ) → IsDue words reading (Refuses why) → line ≡ line_of why → status ≡ status_of why → IsDelivered line status writing result → IsAnswered words reading writing result
-answered_refusal words reading writing why line status result due is_line is_status delivered =
-    (Refuses why, due, subst (λ (s : ℕ). IsDelivered (line_of why) s writing result) is_status (subst (λ (l : List ℕ). IsDelivered l status writing result) is_line delivered))
+-- and so is the line of a refusal that is due, or of want of memory
+pub answered_refusal : (words : List (List ℕ)) (reading : Reading) (writing : Writing) (why : Refusal) (result : ℕ) → IsDue words reading (Refuses why) → IsRefused why writing result → IsAnswered words reading writing result
+answered_refusal words reading writing why result due (inl delivered) = (Refuses why, due, delivered)
+answered_refusal words reading writing why result due (inr delivered) = (Refuses refusal.Memory, tt, delivered)
 
 -- a text whose status is 0 was appended whole
 pub report_of_answer : (words : List (List ℕ)) (reading : Reading) (writing : Writing) (text : List ℕ) (result : ℕ) → IsGivenText words reading text → IsDelivered text 0 writing result → result ≡ 0 → IsGivenReport words reading writing.contents writing.new

@@ -45,6 +45,10 @@ due_of words None before after elf bytes entry refusal.Truncated asked told shor
 due_of words (Some files) before after elf bytes entry refusal.Truncated asked told short cause = (Analyse elf entry, asked, subst (λ (bs : List ℕ). (length bs ≤ longest) × IsRefusedFor bs entry refusal.Truncated) told (short, cause))
 due_of words None before after elf bytes entry refusal.NotStraight asked told short cause = (Analyse elf entry, asked, tt)
 due_of words (Some files) before after elf bytes entry refusal.NotStraight asked told short cause = (Analyse elf entry, asked, subst (λ (bs : List ℕ). (length bs ≤ longest) × IsRefusedFor bs entry refusal.NotStraight) told (short, cause))
+due_of words None before after elf bytes entry (refusal.UnknownWord a) asked told short cause = (Analyse elf entry, asked, tt)
+due_of words (Some files) before after elf bytes entry (refusal.UnknownWord a) asked told short cause = (Analyse elf entry, asked, subst (λ (bs : List ℕ). (length bs ≤ longest) × IsRefusedFor bs entry (refusal.UnknownWord a)) told (short, cause))
+due_of words None before after elf bytes entry (refusal.OutsideCode a) asked told short cause = (Analyse elf entry, asked, tt)
+due_of words (Some files) before after elf bytes entry (refusal.OutsideCode a) asked told short cause = (Analyse elf entry, asked, subst (λ (bs : List ℕ). (length bs ≤ longest) × IsRefusedFor bs entry (refusal.OutsideCode a)) told (short, cause))
 
 -- and so is the refusal of the file
 pub refusal_due : (words : List (List ℕ)) (content : Option (List File)) (before after : List ℕ → ℕ) (elf bytes : List ℕ) (entry : ℕ) (result : Result (Vec ℕ Global) Refusal) → command_of words ≡ Some (Analyse elf entry) → IfTold content (λ files. bytes ≡ file_bytes files elf) → length bytes ≤ longest → IfErr result (λ why. IsRefusedFor bytes entry why) → IfErr result (λ why. IsDue words (record { content = content; before = before; after = after }) (Refuses why))

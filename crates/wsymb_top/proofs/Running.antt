@@ -1,5 +1,5 @@
 -- A returning run along straight code costs no more than its instructions and a miss for each change of line.
-use Rattle.std.proofs.Common.{◌≡◌, ◌≢◌, ℕ, zero, suc, ◌+◌, ◌*◌, ◌%◌, ◌<◌, ◌≤◌, ◌&&◌, ◌||◌, not, Bool, true, false, IsTrue, cond, lit<, inl, inr, Option, Some, None, List, [], ◌∷◌, length, take, eqb, slice_set, slice_index, sum_by, refl, sym, ap, ◌∙◌, subst, arith}
+use Rattle.std.proofs.Common.{◌≡◌, ◌≢◌, ℕ, zero, suc, ◌+◌, ◌*◌, ◌%◌, ◌<◌, ◌≤◌, ◌&&◌, ◌||◌, not, Bool, true, false, IsTrue, cond, lit<, inl, inr, Option, Some, None, List, [], ◌∷◌, length, take, eqb, slice_set, slice_index, sum_by, refl, sym, ap, ◌∙◌, subst, arith, ◌^◌}
 use Rattle.std.proofs.lemmas.Bool.Decides.{eqb_tells}
 use Rattle.std.proofs.Math.Nat.{one-le-pow}
 use Rattle.std.proofs.lemmas.Bool.{eqb-true, eq-eqb, false≢true}
@@ -11,6 +11,10 @@ use Rattle.elf32_image.specs.Bytes.{is_code}
 use Rattle.arm_isa.specs.declared.instruction.Insn.{Insn}
 use Rattle.arm_isa.specs.declared.instruction.Op.{Op}
 use Rattle.arm_isa.specs.declared.instruction.Op.TheVariants as op
+use Rattle.arm_isa.specs.declared.instruction.Operand.{Operand}
+use Rattle.arm_isa.specs.declared.instruction.Operand.TheVariants as operand
+use Rattle.arm_isa.specs.declared.instruction.Shift.{Shift}
+use Rattle.arm_isa.specs.declared.instruction.Shift.TheVariants as shift
 use Rattle.arm_isa.specs.declared.conditions.Flags.{Flags}
 use Rattle.arm_isa.specs.Conditions.{condition_passes}
 use Rattle.arm_isa.specs.Decoding.{is_test}
@@ -23,23 +27,23 @@ use Rattle.control_flow.specs.Points.{next_address}
 use Rattle.arm_machine.specs.declared.stops.Stop.TheVariants as stop
 use Rattle.arm_machine.specs.States.{State, Effect, next_pc, read}
 use Rattle.arm_machine.specs.States.Effect.{Goes, Stops}
-use Rattle.arm_machine.specs.Effects.{computed, constant_carry, constant_value, effect, jumps, writes, with_flags}
+use Rattle.arm_machine.specs.Effects.{computed, effect, jumps, operand_carry, operand_value, writes, with_flags}
 use Rattle.arm_machine.specs.declared.sums.Sum.{Sum}
 use Rattle.arm_machine.specs.Steps.{Outcome, charge, decode_at, outcome_of, settle, step}
 use Rattle.arm_machine.specs.Runs.{IfNext, Returns}
 use Rattle.wsym_terms.specs.LineUses.{is_last, lines_used}
 use Rattle.wsymb_top.specs.Reports.{geometry_of}
-use Rattle.wsymb_top.specs.Straight.{goes_on, ends_well, is_plain, is_link_exchange, IsStraight, addresses_from}
+use Rattle.wsymb_top.specs.Straight.{goes_on, ends_well, is_plain, is_exit, IsStraight, addresses_from}
 
-first_test : (x y : Bool) → x && y ≡ true → x ≡ true
+pub first_test : (x y : Bool) → x && y ≡ true → x ≡ true
 first_test true y h = refl
 first_test false y h = h
 
-second_test : (x y : Bool) → x && y ≡ true → y ≡ true
+pub second_test : (x y : Bool) → x && y ≡ true → y ≡ true
 second_test true y h = h
 second_test false y h = cc
 
-not_true : (x : Bool) → not x ≡ true → x ≡ false
+pub not_true : (x : Bool) → not x ≡ true → x ≡ false
 not_true true h = sym h
 not_true false h = refl
 
@@ -48,7 +52,7 @@ code_test : (code : Bool) (found : Option Insn) (insn : Insn) → cond code foun
 code_test true found insn h = refl
 code_test false found insn h = cc
 
-code_there : (image : ImageValue) (a : ℕ) (insn : Insn) → instruction_at image a ≡ Some insn → is_code image a ≡ true
+pub code_there : (image : ImageValue) (a : ℕ) (insn : Insn) → instruction_at image a ≡ Some insn → is_code image a ≡ true
 code_there image a insn found = code_test (is_code image a) _ insn found
 
 pub chosen : {A : Type 0} (test : Bool) (x y : A) → test ≡ true → cond test x y ≡ x
@@ -100,7 +104,7 @@ flagged sets s next sum follows = record { pc = follows.pc; link = follows.link;
 
 plain_effect_op : (s : State) (o : Op) → is_plain o ≡ true → op_writes o 14 ≡ false → op_writes o 15 ≡ false → (next : State) × (effect s o ≡ Goes next) × Follows s next
 plain_effect_op s (op.Compute code flags rn rd operand) plain link jump =
-    let sum = computed code s.flags (constant_carry s.flags operand) (read s rn) (constant_value operand) in
+    let sum = computed code s.flags (operand_carry s operand) (read s rn) (operand_value s operand) in
     let found = settled_follows (with_flags flags s sum) (is_test code) rd sum.value link jump in
     (found.0, found.1, flagged flags s found.0 sum found.2)
 plain_effect_op s (op.Multiply add flags rd rn rs rm) plain link jump = absurd (false≢true plain)
@@ -165,6 +169,7 @@ fresh_after t sets line limits all =
 pub record IsAt (t : Timing) (a home : ℕ) (last : Option ℕ) (s : State) : Type 0 where
   pub pc : s.pc ≡ a
   pub link : slice_index s.registers 14 ≡ home
+  pub word : home < 2 ^ 32
   pub all : length s.sets ≡ t.sets
   pub fresh : IsFresh t s.sets last
 
@@ -186,6 +191,7 @@ next_at t a home last s next limits at follows =
     record {
       pc = follows.pc ∙ ap next_address at.pc;
       link = follows.link ∙ at.link;
+      word = at.word;
       all = length-set next.sets (line_of t s.pc % t.sets) (fetched t.ways (line_of t s.pc) (lines_at next.sets (line_of t s.pc % t.sets))) ∙ all;
       fresh =
           subst (λ (p : ℕ). IsFresh t (after_fetch t next.sets (line_of t s.pc)) (Some (line_of t p))) at.pc
@@ -201,15 +207,43 @@ home_already : (image : ImageValue) (t : Timing) (home : ℕ) (s : State) (n c :
 home_already image t home s zero c there returns = returns.1
 home_already image t home s (suc n) c there returns = absurd (returns.0 there)
 
-exchange_effect : (s : State) (o : Op) → is_link_exchange o ≡ true → effect s o ≡ jumps s (slice_index s.registers 14)
-exchange_effect s (op.Compute code flags rn rd operand) exchange = absurd (false≢true exchange)
-exchange_effect s (op.Multiply add flags rd rn rs rm) exchange = absurd (false≢true exchange)
-exchange_effect s (op.Long signed add flags hi lo rs rm) exchange = absurd (false≢true exchange)
-exchange_effect s (op.Word load byte index up rn rd offset) exchange = absurd (false≢true exchange)
-exchange_effect s (op.Half load kind index up rn rd offset) exchange = absurd (false≢true exchange)
-exchange_effect s (op.Many load before up back rn list) exchange = absurd (false≢true exchange)
-exchange_effect s (op.Branch linked words) exchange = absurd (false≢true exchange)
-exchange_effect s (op.Exchange rm) exchange = ap (λ (r : ℕ). jumps s (read s r)) (eqb-true rm 14 exchange)
+-- MOV r15,r14 goes to register 14
+mov_exit : (s : State) (code : ℕ) (flags : Bool) (rn rd rm amount : ℕ) → slice_index s.registers 14 < 2 ^ 32 → code ≡ 13 → flags ≡ false → rd ≡ 15 → rm ≡ 14 → amount ≡ 0 → effect s (op.Compute code flags rn rd (operand.Shifted rm (shift.Lsl amount))) ≡ jumps s (slice_index s.registers 14)
+mov_exit s code flags rn rd rm amount small is_mov no_flags to_pc of_link unshifted =
+    ap (λ (c : ℕ). effect s (op.Compute c flags rn rd (operand.Shifted rm (shift.Lsl amount)))) is_mov
+    ∙ ap (λ (f : Bool). effect s (op.Compute 13 f rn rd (operand.Shifted rm (shift.Lsl amount)))) no_flags
+    ∙ ap (λ (r : ℕ). effect s (op.Compute 13 false rn r (operand.Shifted rm (shift.Lsl amount)))) to_pc
+    ∙ ap (λ (r : ℕ). effect s (op.Compute 13 false rn 15 (operand.Shifted r (shift.Lsl amount)))) of_link
+    ∙ ap (λ (n : ℕ). effect s (op.Compute 13 false rn 15 (operand.Shifted 14 (shift.Lsl n)))) unshifted
+    ∙ ap (λ (value : ℕ). jumps s value) (let e : slice_index s.registers 14 * 1 % 2 ^ 32 ≡ slice_index s.registers 14 = omega arith in e)
+
+compute_exit : (s : State) (code : ℕ) (flags : Bool) (rn rd : ℕ) (operand : Operand) → slice_index s.registers 14 < 2 ^ 32 → is_exit (op.Compute code flags rn rd operand) ≡ true → effect s (op.Compute code flags rn rd operand) ≡ jumps s (slice_index s.registers 14)
+compute_exit s code flags rn rd (operand.Value value turned) small exit = absurd (false≢true (second_test ((eqb code 13 && not flags) && eqb rd 15) false exit))
+compute_exit s code flags rn rd (operand.ByRegister rm kind rs) small exit = absurd (false≢true (second_test ((eqb code 13 && not flags) && eqb rd 15) false exit))
+compute_exit s code flags rn rd (operand.Shifted rm (shift.Lsr amount)) small exit = absurd (false≢true (second_test ((eqb code 13 && not flags) && eqb rd 15) false exit))
+compute_exit s code flags rn rd (operand.Shifted rm (shift.Asr amount)) small exit = absurd (false≢true (second_test ((eqb code 13 && not flags) && eqb rd 15) false exit))
+compute_exit s code flags rn rd (operand.Shifted rm (shift.Ror amount)) small exit = absurd (false≢true (second_test ((eqb code 13 && not flags) && eqb rd 15) false exit))
+compute_exit s code flags rn rd (operand.Shifted rm shift.Rrx) small exit = absurd (false≢true (second_test ((eqb code 13 && not flags) && eqb rd 15) false exit))
+compute_exit s code flags rn rd (operand.Shifted rm (shift.Lsl amount)) small exit =
+    let head : (eqb code 13 && not flags) && eqb rd 15 ≡ true = first_test ((eqb code 13 && not flags) && eqb rd 15) (eqb rm 14 && eqb amount 0) exit in
+    let link : eqb rm 14 && eqb amount 0 ≡ true = second_test ((eqb code 13 && not flags) && eqb rd 15) (eqb rm 14 && eqb amount 0) exit in
+    let front : eqb code 13 && not flags ≡ true = first_test (eqb code 13 && not flags) (eqb rd 15) head in
+    mov_exit s code flags rn rd rm amount small
+    (eqb-true code 13 (first_test (eqb code 13) (not flags) front))
+    (not_true flags (second_test (eqb code 13) (not flags) front))
+    (eqb-true rd 15 (second_test (eqb code 13 && not flags) (eqb rd 15) head))
+    (eqb-true rm 14 (first_test (eqb rm 14) (eqb amount 0) link))
+    (eqb-true amount 0 (second_test (eqb rm 14) (eqb amount 0) link))
+
+exit_effect : (s : State) (o : Op) → slice_index s.registers 14 < 2 ^ 32 → is_exit o ≡ true → effect s o ≡ jumps s (slice_index s.registers 14)
+exit_effect s (op.Compute code flags rn rd operand) small exit = compute_exit s code flags rn rd operand small exit
+exit_effect s (op.Multiply add flags rd rn rs rm) small exit = absurd (false≢true exit)
+exit_effect s (op.Long signed add flags hi lo rs rm) small exit = absurd (false≢true exit)
+exit_effect s (op.Word load byte index up rn rd offset) small exit = absurd (false≢true exit)
+exit_effect s (op.Half load kind index up rn rd offset) small exit = absurd (false≢true exit)
+exit_effect s (op.Many load before up back rn list) small exit = absurd (false≢true exit)
+exit_effect s (op.Branch linked words) small exit = absurd (false≢true exit)
+exit_effect s (op.Exchange rm) small exit = ap (λ (r : ℕ). jumps s (read s r)) (eqb-true rm 14 exit)
 
 -- a jump that doesn't stop
 jumped : (image : ImageValue) (t : Timing) (home : ℕ) (s : State) (insn : Insn) (n c value : ℕ) (test : Bool) → IfNext (charge t s insn true (cond test (Goes (record s { pc = value })) (Stops stop.Leaves))) (IsRest image t home n c) → IsRest image t home n c (settle t s.pc (record s { pc = value })) (cost_of t insn true + penalty t s.sets (line_of t s.pc))
@@ -244,18 +278,19 @@ stepped image t home a last s insn found always at =
 -- the last instruction of a straight function
 last_within : (image : ImageValue) (t : Timing) (home : ℕ) (insn : Insn) (a : ℕ) (last : Option ℕ) (s : State) (n c : ℕ) → instruction_at image a ≡ Some insn → IsTrue (ends_well insn) → IsAt t a home last s → IfNext (step image t s) (IsRest image t home n c) → c ≤ cycles_of t last a (insn ∷ [])
 last_within image t home insn a last s n c found end at run =
-    let always : eqb insn.cond 14 ≡ true = first_test (eqb insn.cond 14) (is_link_exchange insn.op) end in
-    let exchange : is_link_exchange insn.op ≡ true = second_test (eqb insn.cond 14) (is_link_exchange insn.op) end in
+    let always : eqb insn.cond 14 ≡ true = first_test (eqb insn.cond 14) (is_exit insn.op) end in
+    let exit : is_exit insn.op ≡ true = second_test (eqb insn.cond 14) (is_exit insn.op) end in
+    let small : slice_index s.registers 14 < 2 ^ 32 = subst (λ (w : ℕ). w < 2 ^ 32) (sym at.link) at.word in
     let value = slice_index s.registers 14 in
     let spent = cost_of t insn true + penalty t s.sets (line_of t s.pc) in
     let others = cycles_of t (Some (line_of t a)) (next_address a) [] in
-    let way = stepped image t home a last s insn found always at ∙ ap (λ (e : Effect). charge t s insn true e) (exchange_effect s insn.op exchange) in
+    let way = stepped image t home a last s insn found always at ∙ ap (λ (e : Effect). charge t s insn true e) (exit_effect s insn.op small exit) in
     let rest : IsRest image t home n c (settle t s.pc (record s { pc = value })) spent =
     jumped image t home s insn n c value (eqb (value % 4) 0) (subst (λ (o : Outcome). IfNext o (IsRest image t home n c)) way run) in
     let none : rest.0 ≡ 0 = home_already image t home (settle t s.pc (record s { pc = value })) n rest.0 at.link rest.2 in
-    let small : rest.0 ≤ others = omega (arith, none) in
+    let nothing : rest.0 ≤ others = omega (arith, none) in
     total_within c spent rest.0 (point_cost t insn + cond (is_last last (line_of t a)) 0 t.miss) others (cycles_of t last a (insn ∷ [])) rest.1
-    (spent_within t home insn a last s always at) small (cycles_more t last a insn [])
+    (spent_within t home insn a last s always at) nothing (cycles_more t last a insn [])
 
 -- an instruction behind which the next one follows
 first_within : (image : ImageValue) (t : Timing) (home : ℕ) (insn : Insn) (insns : List Insn) (a : ℕ) (last : Option ℕ) (s : State) (n c : ℕ) → IsWithinLimits t → instruction_at image a ≡ Some insn → IsTrue (goes_on insn) → IsAt t a home last s → ((next : State) (rest : ℕ) → IsAt t (next_address a) home (Some (line_of t a)) next → Returns image t home next n rest → rest ≤ cycles_of t (Some (line_of t a)) (next_address a) insns) → IfNext (step image t s) (IsRest image t home n c) → c ≤ cycles_of t last a (insn ∷ insns)

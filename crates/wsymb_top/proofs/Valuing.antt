@@ -89,6 +89,7 @@ bound image t entry stack insns report limits straight is values range s n c sta
     let there : IsAt t entry home None s = record {
       pc = start.at_entry ∙ is.entry_is;
       link = refl;
+      word = start.words 14;
       all = start.cache.all_sets ∙ ap (λ (timing : Timing). timing.sets) is.timing_is;
       fresh = tt;
     } in

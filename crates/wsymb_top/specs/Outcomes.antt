@@ -14,7 +14,7 @@ use Rattle.wsymb_top.specs.declared.refusals.Refusal.{Refusal}
 use Rattle.wsymb_top.specs.declared.refusals.Refusal.TheVariants as refusal
 use Rattle.wsymb_top.specs.Commands.{Command, Analyse, command_of, file_of}
 use Rattle.wsymb_top.specs.Refusals.{status_of, line_of}
-use Rattle.wsymb_top.specs.Straight.{IsStraight}
+use Rattle.wsymb_top.specs.Straight.{IsCrooked, IsOutsideAt, IsUnknownAt}
 use Rattle.wsymb_top.specs.Headline.{IsKept}
 use Rattle.wsymb_top.specs.Reports.{IsOfWalk}
 
@@ -26,9 +26,17 @@ longest = 67108864
 abbrev pub HasOneHeader : List ℕ → Type 0
 HasOneHeader bytes = (header : FileHeader) × (header_of bytes ≡ Some header) × (header.program_count ≡ 1)
 
--- the function isn't straight, or has more than 100 instructions
-abbrev pub IsCrooked : ImageValue → ℕ → Type 0
-IsCrooked image entry = (insns : List Insn) → length insns ≤ 100 → IsStraight image entry insns → ⊥
+-- why the function in an image has no report
+abbrev pub IsRefusedByWalk : ImageValue → ℕ → Refusal → Type 0
+IsRefusedByWalk image entry refusal.Memory = Unit {0}
+IsRefusedByWalk image entry refusal.NotStraight = IsCrooked image entry
+IsRefusedByWalk image entry (refusal.UnknownWord a) = IsUnknownAt image entry a
+IsRefusedByWalk image entry (refusal.OutsideCode a) = IsOutsideAt image entry a
+IsRefusedByWalk image entry refusal.NotElf32Arm = ⊥
+IsRefusedByWalk image entry refusal.Truncated = ⊥
+IsRefusedByWalk image entry refusal.Usage = ⊥
+IsRefusedByWalk image entry refusal.ReadFault = ⊥
+IsRefusedByWalk image entry refusal.FileTooLong = ⊥
 
 -- why a file of at most the greatest length has no report
 abbrev pub IsRefusedFor : List ℕ → ℕ → Refusal → Type 0
@@ -38,6 +46,8 @@ IsRefusedFor bytes entry refusal.Truncated = HasOneHeader bytes × (image_of byt
 IsRefusedFor bytes entry refusal.NotStraight =
     ((header : FileHeader) × (header_of bytes ≡ Some header) × (header.program_count ≢ 1))
     ⊎ (HasOneHeader bytes × (image : ImageValue) × (image_of bytes ≡ Ok image) × IsCrooked image entry)
+IsRefusedFor bytes entry (refusal.UnknownWord a) = HasOneHeader bytes × (image : ImageValue) × (image_of bytes ≡ Ok image) × IsUnknownAt image entry a
+IsRefusedFor bytes entry (refusal.OutsideCode a) = HasOneHeader bytes × (image : ImageValue) × (image_of bytes ≡ Ok image) × IsOutsideAt image entry a
 IsRefusedFor bytes entry refusal.Usage = ⊥
 IsRefusedFor bytes entry refusal.ReadFault = ⊥
 IsRefusedFor bytes entry refusal.FileTooLong = ⊥
@@ -98,6 +108,8 @@ IsDue words reading (Refuses refusal.FileTooLong) = OnFile words reading (λ byt
 IsDue words reading (Refuses refusal.NotElf32Arm) = OnFile words reading (λ bytes entry. (length bytes ≤ longest) × IsRefusedFor bytes entry refusal.NotElf32Arm)
 IsDue words reading (Refuses refusal.Truncated) = OnFile words reading (λ bytes entry. (length bytes ≤ longest) × IsRefusedFor bytes entry refusal.Truncated)
 IsDue words reading (Refuses refusal.NotStraight) = OnFile words reading (λ bytes entry. (length bytes ≤ longest) × IsRefusedFor bytes entry refusal.NotStraight)
+IsDue words reading (Refuses (refusal.UnknownWord a)) = OnFile words reading (λ bytes entry. (length bytes ≤ longest) × IsRefusedFor bytes entry (refusal.UnknownWord a))
+IsDue words reading (Refuses (refusal.OutsideCode a)) = OnFile words reading (λ bytes entry. (length bytes ≤ longest) × IsRefusedFor bytes entry (refusal.OutsideCode a))
 IsDue words reading (Prints report) = OnFile words reading (λ bytes entry. (length bytes ≤ longest) × IsReportOf bytes entry report)
 
 -- the text is that of a report that is due
@@ -118,6 +130,11 @@ pub data IsDelivered (text : List ℕ) (status : ℕ) (writing : Writing) (resul
   SinkFailed : (answer : result ≡ 4) → (rose : Rose writing.before writing.after) → (written : AppendsFront writing.contents writing.new text) → IsDelivered text status writing result
   SinkFull : (answer : result ≡ 1) → (written : AppendsFront writing.contents writing.new text) → IsDelivered text status writing result
 
+-- the line of a refusal, or of want of memory, is delivered
+abbrev pub IsRefused : Refusal → Writing → ℕ → Type 0
+IsRefused why writing result =
+    IsDelivered (line_of why) (status_of why) writing result ⊎ IsDelivered (line_of refusal.Memory) 1 writing result
+
 -- the whole answer of a call: an outcome that is due, delivered
 abbrev pub IsAnswered : List (List ℕ) → Reading → Writing → ℕ → Type 0
 IsAnswered words reading writing result =
@@ -136,6 +153,8 @@ IsFixed (Refuses refusal.FileTooLong) = Unit {0}
 IsFixed (Refuses refusal.NotElf32Arm) = Unit {0}
 IsFixed (Refuses refusal.Truncated) = Unit {0}
 IsFixed (Refuses refusal.NotStraight) = Unit {0}
+IsFixed (Refuses (refusal.UnknownWord a)) = Unit {0}
+IsFixed (Refuses (refusal.OutsideCode a)) = Unit {0}
 IsFixed (Prints report) = Unit {0}
 
 -- But for want of memory (1), a fault of reading (3) and one of writing (4), the status is that of each outcome that the words

@@ -1,16 +1,17 @@
 -- A straight function: instructions one after another, of which the last returns.
-use Rattle.std.specs.Prelude.{◌≡◌, ℕ, ◌==◌, ◌&&◌, not, Bool, false, IsTrue, Some, List, [], ◌∷◌}
+use Rattle.std.specs.Prelude.{◌≡◌, ℕ, ◌<◌, ◌⊎◌, ◌==◌, ◌&&◌, not, Bool, true, false, IsTrue, Option, Some, None, List, [], ◌∷◌, length}
 use Rattle.elf32_image.specs.Parts.{ImageValue}
+use Rattle.elf32_image.specs.Bytes.{is_code}
 use Rattle.arm_isa.specs.declared.instruction.Insn.{Insn}
 use Rattle.arm_isa.specs.declared.instruction.Op.{Op}
 use Rattle.arm_isa.specs.declared.instruction.Op.TheVariants as op
-use Rattle.arm_isa.specs.Writes.{writes_register}
-use Rattle.control_flow.specs.Instructions.{instruction_at, is_constant}
+use Rattle.arm_isa.specs.Writes.{is_link_register, writes_register}
+use Rattle.control_flow.specs.Instructions.{instruction_at, is_immediate}
 use Rattle.control_flow.specs.Points.{next_address}
 
--- data processing with a constant
+-- data processing without shifts by a register
 abbrev pub is_plain : Op → Bool
-is_plain (op.Compute code flags rn rd operand) = is_constant operand
+is_plain (op.Compute code flags rn rd operand) = is_immediate operand
 is_plain (op.Multiply add flags rd rn rs rm) = false
 is_plain (op.Long signed add flags hi lo rs rm) = false
 is_plain (op.Word load byte index up rn rd offset) = false
@@ -19,16 +20,16 @@ is_plain (op.Many load before up back rn list) = false
 is_plain (op.Branch link words) = false
 is_plain (op.Exchange rm) = false
 
--- BX r14
-abbrev pub is_link_exchange : Op → Bool
-is_link_exchange (op.Compute code flags rn rd operand) = false
-is_link_exchange (op.Multiply add flags rd rn rs rm) = false
-is_link_exchange (op.Long signed add flags hi lo rs rm) = false
-is_link_exchange (op.Word load byte index up rn rd offset) = false
-is_link_exchange (op.Half load kind index up rn rd offset) = false
-is_link_exchange (op.Many load before up back rn list) = false
-is_link_exchange (op.Branch link words) = false
-is_link_exchange (op.Exchange rm) = rm == 14
+-- MOV r15,r14 without shift and without S, or BX r14
+abbrev pub is_exit : Op → Bool
+is_exit (op.Compute code flags rn rd operand) = (code == 13) && not flags && (rd == 15) && is_link_register operand
+is_exit (op.Multiply add flags rd rn rs rm) = false
+is_exit (op.Long signed add flags hi lo rs rm) = false
+is_exit (op.Word load byte index up rn rd offset) = false
+is_exit (op.Half load kind index up rn rd offset) = false
+is_exit (op.Many load before up back rn list) = false
+is_exit (op.Branch link words) = false
+is_exit (op.Exchange rm) = rm == 14
 
 -- always done, and then the next one follows with the stack pointer and the return address as they were
 abbrev pub goes_on : Insn → Bool
@@ -36,13 +37,40 @@ goes_on insn = (insn.cond == 14) && is_plain insn.op && not (writes_register ins
 
 -- always done, and goes to the return address
 abbrev pub ends_well : Insn → Bool
-ends_well insn = (insn.cond == 14) && is_link_exchange insn.op
+ends_well insn = (insn.cond == 14) && is_exit insn.op
+
+-- these instructions stand from a on, each goes on, and b is the address behind them
+abbrev pub IsPassed : ImageValue → ℕ → List Insn → ℕ → Type 0
+IsPassed image a [] b = a ≡ b
+IsPassed image a (insn ∷ insns) b = (instruction_at image a ≡ Some insn) × IsTrue (goes_on insn) × IsPassed image (next_address a) insns b
 
 -- these instructions stand from the address on; each goes on, but for the last, which ends well
 abbrev pub IsStraight : ImageValue → ℕ → List Insn → Type 0
 IsStraight image a [] = ⊥
 IsStraight image a (insn ∷ []) = (instruction_at image a ≡ Some insn) × IsTrue (ends_well insn)
 IsStraight image a (insn ∷ more ∷ insns) = (instruction_at image a ≡ Some insn) × IsTrue (goes_on insn) × IsStraight image (next_address a) (more ∷ insns)
+
+-- behind fewer than 100 instructions that go on, the fact holds of the address
+abbrev pub StopsAt : ImageValue → ℕ → (ℕ → Type 0) → ℕ → Type 0
+StopsAt image entry P b = (insns : List Insn) × (length insns < 100) × IsPassed image entry insns b × P b
+
+-- the walk meets an address that isn't code
+abbrev pub IsOutsideAt : ImageValue → ℕ → ℕ → Type 0
+IsOutsideAt image entry = StopsAt image entry (λ b. is_code image b ≡ false)
+
+-- the walk meets a word without decoding
+abbrev pub IsUnknownAt : ImageValue → ℕ → ℕ → Type 0
+IsUnknownAt image entry = StopsAt image entry (λ b. (is_code image b ≡ true) × (instruction_at image b ≡ None))
+
+-- an instruction that neither goes on nor ends the function
+abbrev pub IsBentAt : ImageValue → ℕ → Type 0
+IsBentAt image b = (insn : Insn) × (instruction_at image b ≡ Some insn) × (goes_on insn ≡ false) × (ends_well insn ≡ false)
+
+-- the walk meets such an instruction, or 100 instructions go on
+abbrev pub IsCrooked : ImageValue → ℕ → Type 0
+IsCrooked image entry =
+    ((b : ℕ) × StopsAt image entry (IsBentAt image) b)
+    ⊎ ((insns : List Insn) × (b : ℕ) × (length insns ≡ 100) × IsPassed image entry insns b)
 
 -- the addresses of instructions that stand from an address on
 abbrev pub addresses_from : ℕ → List Insn → List ℕ

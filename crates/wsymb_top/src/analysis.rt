@@ -1,11 +1,11 @@
 ghost use Rattle.std.specs.Prelude.{◌≡◌, ◌≤◌, ◌⊎◌, ℕ, length, IfOk, IfErr, IsErrOf};
 ghost use Rattle.elf32_image.specs.Segments.{image_of};
 ghost use Rattle.report_text.specs.Lines.{text_of};
-ghost use Rattle.wsymb_top.specs.Outcomes.{HasOneHeader, IsCrooked, IsDescribed, IsOfInsns, IsRefusedFor, IsReported};
+ghost use Rattle.wsymb_top.specs.Outcomes.{HasOneHeader, IsDescribed, IsOfInsns, IsRefusedByWalk, IsRefusedFor, IsReported};
 
 use crate::refusals::Refusal;
 use crate::report::straight_report;
-use crate::walk::straight;
+use crate::walk::{Walk, walk_along};
 use arm_isa::Insn;
 use elf32_image::{ElfRefusal, FileHeader, Image, read_image};
 use fetch_timing::Timing;
@@ -46,12 +46,13 @@ fn image_of_file(alloc: Global, bytes: &[u8]) -> Result<Image, Refusal>
 /// The text of the report of the function at an address of an image, or why there is none.
 fn report_of_image(alloc: Global, image: &Image, entry: u32) -> Result<Vec<u8>, Refusal>
     ensures report { IfOk result (λ text. IsDescribed image.now entry text.items) }
-    ensures crooked { IsErrOf result Refusal.NotStraight → IsCrooked image.now entry }
-    ensures refused { IfErr result (λ why. (why ≡ Refusal.Memory) ⊎ (why ≡ Refusal.NotStraight)) }
+    ensures refused { IfErr result (IsRefusedByWalk image.now entry) }
 {
-    match straight(alloc, image, entry) {
-        Ok(Some(insns)) => text_of_walk(alloc, entry, insns.as_slice()),
-        Ok(None) => Err(Refusal::NotStraight),
+    match walk_along(alloc, image, entry) {
+        Ok(Walk::Straight(insns)) => text_of_walk(alloc, entry, insns.as_slice()),
+        Ok(Walk::Crooked) => Err(Refusal::NotStraight),
+        Ok(Walk::UnknownWord(address)) => Err(Refusal::UnknownWord(address)),
+        Ok(Walk::OutsideCode(address)) => Err(Refusal::OutsideCode(address)),
         Err(_) => Err(Refusal::Memory),
     }
 }

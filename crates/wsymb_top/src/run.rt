@@ -7,7 +7,7 @@ ghost use Rattle.wsymb_top.specs.Outcomes.{HasReadFault, IsAnswered, IsDue, IsGi
 use crate::analysis::report_of_file;
 use crate::commands::asked;
 use crate::delivery::deliver;
-use crate::refusals::{ANSWERED, Refusal, Status};
+use crate::refusals::{ANSWERED, Refusal, Status, refuse};
 use std::alloc::Global;
 use wsym_io::{Shelf, ShelfFault, Sink};
 
@@ -50,7 +50,7 @@ pub fn wsymb<F: Shelf, K: Sink>(
 {
     match answer(alloc, words.as_slice(), shelf) {
         Ok(text) => deliver(out, text.as_slice(), ANSWERED),
-        Err(why) => deliver(out, why.line(), why.status()),
+        Err(why) => refuse(alloc, out, why),
     }
 }
 

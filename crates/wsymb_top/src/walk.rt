@@ -1,9 +1,8 @@
-ghost use Rattle.std.specs.Prelude.{◌≡◌, ◌≤◌, length, IfOk, IfSome, IfNone};
-ghost use Rattle.wsymb_top.specs.Outcomes.{IsCrooked};
-ghost use Rattle.wsymb_top.specs.Straight.{IsStraight, ends_well, goes_on, is_link_exchange, is_plain};
-ghost use Rattle.wsymb_top.specs.Steps.{StepsTo};
+ghost use Rattle.std.specs.Prelude.{◌≡◌, IfOk};
+ghost use Rattle.wsymb_top.specs.Steps.{StepsTo, WalksTo};
+ghost use Rattle.wsymb_top.specs.Straight.{ends_well, goes_on, is_exit, is_plain};
 
-use arm_isa::{Insn, Op, Operand, may_write};
+use arm_isa::{Insn, Op, Operand, is_return, may_write};
 use control_flow::instruction_at;
 use elf32_image::Image;
 use sqlite_items::Items;
@@ -15,6 +14,19 @@ const MOST: usize = 100;
 /// The condition that always passes.
 const ALWAYS: u8 = 14;
 
+/// What a walk along a function finds.
+#[derive(Drop)]
+pub(crate) enum Walk {
+    /// The function is straight and has these instructions, at most 100.
+    Straight(Items<Insn>),
+    /// An instruction neither goes on nor ends the function, or 100 go on.
+    Crooked,
+    /// The word at this address has no decoding.
+    UnknownWord(u32),
+    /// This address isn't code.
+    OutsideCode(u32),
+}
+
 /// What stands at a step of the walk.
 #[derive(Clone, Copy)]
 enum Step {
@@ -22,20 +34,17 @@ enum Step {
     On(Insn),
     /// The return that ends the function.
     End(Insn),
-    /// Something else.
-    Off,
+    /// An instruction that does neither.
+    Bent,
+    /// A word without decoding.
+    Unknown,
+    /// No code.
+    Outside,
 }
 
-/// The instructions of the straight function at an address, or `None` where it isn't straight or has more
-/// than 100 instructions.
-pub(crate) fn straight(
-    alloc: Global,
-    image: &Image,
-    entry: u32,
-) -> Result<Option<Items<Insn>>, AllocError>
-    ensures found { IfOk result (λ walked. IfSome walked (λ insns. IsStraight image.now entry insns)) }
-    ensures few { IfOk result (λ walked. IfSome walked (λ insns. length insns ≤ 100)) }
-    ensures none { IfOk result (λ walked. IfNone walked (IsCrooked image.now entry)) }
+/// Walks along the function at an address, up to the first instruction that doesn't go on.
+pub(crate) fn walk_along(alloc: Global, image: &Image, entry: u32) -> Result<Walk, AllocError>
+    ensures { IfOk result (WalksTo image.now entry) }
 {
     let mut insns = Vec::new(alloc);
     let mut address = entry;
@@ -44,22 +53,28 @@ pub(crate) fn straight(
             Step::On(insn) => insns.push(insn)?,
             Step::End(insn) => {
                 insns.push(insn)?;
-                return Ok(Some(Items::from_vec(insns)));
+                return Ok(Walk::Straight(Items::from_vec(insns)));
             }
-            Step::Off => return Ok(None),
+            Step::Bent => return Ok(Walk::Crooked),
+            Step::Unknown => return Ok(Walk::UnknownWord(address)),
+            Step::Outside => return Ok(Walk::OutsideCode(address)),
         }
         address = address.wrapping_add(4);
     }
-    Ok(None)
+    Ok(Walk::Crooked)
 }
 
 fn step_at(image: &Image, address: u32) -> Step
     ensures { StepsTo image.now address result }
 {
+    if !image.is_code(address) {
+        return Step::Outside;
+    }
     match instruction_at(image, address) {
         Some(insn) if ends_well(&insn) => Step::End(insn),
         Some(insn) if goes_on(&insn) => Step::On(insn),
-        _ => Step::Off,
+        Some(_) => Step::Bent,
+        None => Step::Unknown,
     }
 }
 
@@ -78,28 +93,28 @@ fn goes_on(insn: &Insn) -> bool
 fn ends_well(insn: &Insn) -> bool
     ensures { result ≡ ends_well insn.now }
 {
-    insn.cond == ALWAYS && is_link_exchange(&insn.op)
+    insn.cond == ALWAYS && is_exit(insn)
 }
 
-/// Whether this is data processing with a constant.
+/// Whether this is data processing without a shift by a register.
 fn is_plain(op: &Op) -> bool
     ensures { result ≡ is_plain op.now }
 {
     match op {
-        Op::Compute {
-            operand: Operand::Value { .. },
-            ..
-        } => true,
+        Op::Compute { operand, .. } => match operand {
+            Operand::Value { .. } | Operand::Shifted { .. } => true,
+            Operand::ByRegister { .. } => false,
+        },
         _ => false,
     }
 }
 
-/// Whether this is BX r14.
-fn is_link_exchange(op: &Op) -> bool
-    ensures { result ≡ is_link_exchange op.now }
+/// Whether this is BX r14 or MOV r15,r14: of the returns those that read no memory.
+fn is_exit(insn: &Insn) -> bool
+    ensures { result ≡ is_exit insn.now.op }
 {
-    match op {
-        Op::Exchange { rm } => *rm == 14,
+    match insn.op {
+        Op::Compute { .. } | Op::Exchange { .. } => is_return(insn),
         _ => false,
     }
 }

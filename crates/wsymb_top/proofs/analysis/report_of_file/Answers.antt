@@ -7,7 +7,7 @@ returns-in-Ok-clause-report c =
 
 pub returns-in-Ok-clause-refused : goal.returns-in-Ok-clause-refused
 returns-in-Ok-clause-refused c =
-    refused_for c.args.bytes.now c.in-Ok.image c.args.entry c.report_of_image.result c.in-Ok.ensures.one c.in-Ok.ensures.image c.report_of_image.ensures.crooked c.report_of_image.ensures.refused
+    refused_for c.args.bytes.now c.in-Ok.image c.args.entry c.report_of_image.result c.in-Ok.ensures.one c.in-Ok.ensures.image c.report_of_image.ensures.refused
 
 pub returns-in-Err-clause-refused : goal.returns-in-Err-clause-refused
 returns-in-Err-clause-refused c = c.in-Err.ensures.refused c.args.entry

@@ -25,10 +25,10 @@ returns-in-Ok-clause-report g c =
 pub returns-in-Err-clause-answered : goal.returns-in-Err-clause-answered
 returns-in-Err-clause-answered g c =
     let reading : Reading = record { content = g.F.Shelf.content c.args.shelf.now; before = g.F.Shelf.faults c.args.shelf.now; after = g.F.Shelf.faults c.answer.new.shelf } in
-    let writing : Writing = record { contents = g.K.Sink.contents c.args.out.now; new = g.K.Sink.contents c.deliver-in-Err.new.out; before = g.K.Sink.faults c.args.out.now; after = g.K.Sink.faults c.deliver-in-Err.new.out } in
-    answered_refusal (map string_bytes c.args.words.now.items) reading writing c.in-Err.why c.line.result.now c.status.result c.deliver-in-Err.result
+    let writing : Writing = record { contents = g.K.Sink.contents c.args.out.now; new = g.K.Sink.contents c.refuse.new.out; before = g.K.Sink.faults c.args.out.now; after = g.K.Sink.faults c.refuse.new.out } in
+    answered_refusal (map string_bytes c.args.words.now.items) reading writing c.in-Err.why c.refuse.result
     (subst (λ (words : List (String Global)). IsDue (map string_bytes words) reading (Refuses c.in-Err.why)) c.as_slice.ensures.value c.in-Err.ensures.refused)
-    c.line.ensures c.status.ensures c.deliver-in-Err.ensures.delivered
+    c.refuse.ensures.refused
 
 pub returns-in-Ok-clause-only : goal.returns-in-Ok-clause-only
 returns-in-Ok-clause-only g c =
@@ -39,5 +39,5 @@ returns-in-Ok-clause-only g c =
 pub returns-in-Err-clause-only : goal.returns-in-Err-clause-only
 returns-in-Err-clause-only g c =
     only (map string_bytes c.args.words.now.items) (g.F.Shelf.content c.args.shelf.now) (g.F.Shelf.faults c.args.shelf.now) (g.F.Shelf.faults c.answer.new.shelf)
-    (record { contents = g.K.Sink.contents c.args.out.now; new = g.K.Sink.contents c.deliver-in-Err.new.out; before = g.K.Sink.faults c.args.out.now; after = g.K.Sink.faults c.deliver-in-Err.new.out })
-    c.deliver-in-Err.result (returns-in-Err-clause-answered g c)
+    (record { contents = g.K.Sink.contents c.args.out.now; new = g.K.Sink.contents c.refuse.new.out; before = g.K.Sink.faults c.args.out.now; after = g.K.Sink.faults c.refuse.new.out })
+    c.refuse.result (returns-in-Err-clause-answered g c)

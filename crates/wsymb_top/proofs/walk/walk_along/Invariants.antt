@@ -1,6 +1,6 @@
 use Rattle.std.proofs.Common.{◌≡◌, length}
-use Rattle.wsymb_top.proofs.Walking.{IsPassed}
-use Rattle.wsymb_top.proofs.walk.straight.Given as goal
+use Rattle.wsymb_top.specs.Straight.{IsPassed}
+use Rattle.wsymb_top.proofs.walk.walk_along.Given as goal
 
 abbrev pub invariant-loop-turn : goal.invariant-loop-turn
 invariant-loop-turn l = record {
