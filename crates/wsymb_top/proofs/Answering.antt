@@ -1,5 +1,5 @@
 -- From the report of some instructions to the report of a file, and from an outcome to each answer's cause.
-use Rattle.std.proofs.Common.{◌≡◌, ℕ, ◌≤◌, ◌⊎◌, inl, inr, List, length, Result, Ok, Err, IfOk, IfErr, IsErrOf, subst, sym, ap, ◌∙◌, arith, Vec}
+use Rattle.std.proofs.Common.{◌≡◌, ℕ, ◌≤◌, inl, inr, List, length, Result, Ok, Err, IfOk, IfErr, subst, ap, ◌∙◌, arith, Vec}
 use Rattle.std.specs.declared.alloc.Global.{Global}
 use Rattle.arm_isa.specs.declared.instruction.Insn.{Insn}
 use Rattle.elf32_image.specs.Parts.{ImageValue}

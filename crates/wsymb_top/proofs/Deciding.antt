@@ -1,5 +1,5 @@
 -- For one file at most one outcome is due, but for want of memory and faults of reading.
-use Rattle.std.proofs.Common.{◌≡◌, ◌≢◌, ℕ, zero, suc, ◌+◌, ◌-◌, ◌≤◌, ◌<◌, ◌&&◌, ◌⊎◌, not, inl, inr, Bool, true, false, IsTrue, cond, eqb, ltb, unwrap_or, Option, Some, None, Result, Ok, Err, List, [], ◌∷◌, length, refl, sym, ap, ◌∙◌, subst, arith}
+use Rattle.std.proofs.Common.{◌≡◌, ℕ, zero, suc, ◌+◌, ◌-◌, ◌≤◌, ◌<◌, ◌&&◌, ◌⊎◌, not, inl, inr, Bool, true, false, IsTrue, cond, eqb, ltb, unwrap_or, Option, Some, None, Result, Ok, Err, List, [], ◌∷◌, length, refl, sym, ap, ◌∙◌, subst, arith}
 use Rattle.std.proofs.lemmas.Bool.{eqb-true, eq-eqb, le-ltb, lt-ltb, false≢true}
 use Rattle.elf32_image.specs.Parts.{ImageValue}
 use Rattle.elf32_image.specs.Bytes.{is_code}
@@ -18,10 +18,10 @@ use Rattle.wsym_io.specs.Io.{File, IfTold, file_bytes}
 use Rattle.report_text.specs.declared.report.Report.{Report}
 use Rattle.wsymb_top.specs.declared.refusals.Refusal.{Refusal}
 use Rattle.wsymb_top.specs.declared.refusals.Refusal.TheVariants as refusal
-use Rattle.wsymb_top.specs.Commands.{Command, command_of, file_of}
+use Rattle.wsymb_top.specs.Commands.{Command, command_of}
 use Rattle.wsymb_top.specs.Commands.Command.{Analyse}
-use Rattle.wsymb_top.specs.Straight.{IsBentAt, IsCrooked, IsPassed, IsStraight, StopsAt, ends_well, goes_on, is_exit, is_plain}
-use Rattle.wsymb_top.specs.Outcomes.{HasOneHeader, IsAnswered, IsDelivered, IsDue, IsFixed, IsOnly, IsReportOf, IsRefusedFor, Outcome, Reading, Writing, longest, outcome_status, outcome_text}
+use Rattle.wsymb_top.specs.Straight.{IsBentAt, IsCrooked, IsPassed, IsStraight, ends_well, goes_on, is_exit, is_plain}
+use Rattle.wsymb_top.specs.Outcomes.{HasOneHeader, IsAnswered, IsDelivered, IsDue, IsFixed, IsOnly, IsReportOf, IsRefusedFor, Outcome, Writing, longest, outcome_status, outcome_text}
 use Rattle.wsymb_top.specs.Outcomes.IsDelivered.{Whole, SinkFailed, SinkFull}
 use Rattle.wsymb_top.specs.Outcomes.Outcome.{Prints, Refuses}
 use Rattle.wsymb_top.proofs.Running.{chosen, refused, differs, first_test, second_test, not_true, code_there}
@@ -76,8 +76,8 @@ exit_writes (op.Exchange rm) plain exit = absurd (false≢true plain)
 not_ended : (insn : Insn) → IsTrue (goes_on insn) → ends_well insn ≡ false
 not_ended insn on =
     never (ends_well insn) (λ ends. false≢true (
-      sym (not_true _ (second_test _ _ on))
-      ∙ exit_writes insn.op (second_test _ _ (first_test _ _ (first_test _ _ (first_test _ _ on)))) (second_test _ _ ends)
+    sym (not_true _ (second_test _ _ on))
+    ∙ exit_writes insn.op (second_test _ _ (first_test _ _ (first_test _ _ (first_test _ _ on)))) (second_test _ _ ends)
     ))
 
 code_status : (image : ImageValue) (a : ℕ) → is_code image a ≡ true → status_at image a ≡ status_of_insn (instruction_at image a)

@@ -13,7 +13,6 @@ use Rattle.arm_isa.specs.declared.instruction.Op.{Op}
 use Rattle.arm_isa.specs.declared.instruction.Op.TheVariants as op
 use Rattle.arm_isa.specs.declared.instruction.Operand.{Operand}
 use Rattle.arm_isa.specs.declared.instruction.Operand.TheVariants as operand
-use Rattle.arm_isa.specs.declared.instruction.Shift.{Shift}
 use Rattle.arm_isa.specs.declared.instruction.Shift.TheVariants as shift
 use Rattle.arm_isa.specs.declared.conditions.Flags.{Flags}
 use Rattle.arm_isa.specs.Conditions.{condition_passes}

@@ -1,11 +1,11 @@
 -- The walk along a function finds its instructions exactly where it is straight.
-use Rattle.std.proofs.Common.{◌≡◌, ℕ, zero, suc, ◌+◌, ◌<◌, ◌⊎◌, inl, inr, Some, List, [], ◌∷◌, ◌++◌, length, drop, add-one, append_assoc, refl, sym, ap, ◌∙◌, subst, arith}
+use Rattle.std.proofs.Common.{◌≡◌, ℕ, zero, suc, ◌+◌, ◌<◌, List, [], ◌∷◌, ◌++◌, length, drop, add-one, append_assoc, refl, sym, ap, ◌∙◌, subst, arith}
 use Rattle.elf32_image.specs.Parts.{ImageValue}
 use Rattle.arm_isa.specs.declared.instruction.Insn.{Insn}
 use Rattle.control_flow.specs.Points.{next_address}
-use Rattle.wsymb_top.specs.Straight.{IsCrooked, IsPassed, IsStraight, addresses_from}
+use Rattle.wsymb_top.specs.Straight.{IsPassed, IsStraight, addresses_from}
 use Rattle.wsymb_top.specs.Steps.{StepsTo}
-use Rattle.wsymb_top.specs.declared.walk.Step.TheVariants.{On, End, Bent}
+use Rattle.wsymb_top.specs.declared.walk.Step.TheVariants.{On, End}
 
 pub passed_more : (image : ImageValue) (a b : ℕ) (insns : List Insn) (insn : Insn) → IsPassed image a insns b → StepsTo image b (On insn) → IsPassed image a (insns ++ insn ∷ []) (next_address b)
 passed_more image a b [] insn same step = subst (λ (from : ℕ). IsPassed image from (insn ∷ []) (next_address b)) (sym same) (step.0, step.1, refl)

@@ -77,17 +77,77 @@ fn answer(alloc: Global, words: &[&str], code: &[u32]) -> Result<(u8, Vec<u8>), 
 fn analyses_straight_functions(rt: HostRuntime) -> Result<(), Fail> {
     let words = ["analyse", "a.elf", "unit", "0x8000"];
     let five = [0xe3a00001, 0xe2800001, 0xe2800001, 0xe2800001, 0xe12fff1e];
-    let table: [(&[u32], u8, &str); 4] = [
+    let table: [(&[u32], u8, &str); 13] = [
         (&[0xe3a00001, 0xe12fff1e], 0, TWO),
         (&five, 0, FIVE),
+        // MOV r15,r14 as the end.
+        (&[0xe3a00001, 0xe1a0f00e], 0, TWO),
+        // Shifts by a constant amount, and a test.
+        (
+            &[0xe1b01042, 0xe1a01fa1, 0xe1a020e1, 0xe3510000, 0xe12fff1e],
+            0,
+            FIVE,
+        ),
+        // MRS, shifts by a register and conditions have no decoding yet, and a return from an exception never has.
+        (&[0xe10f0000], 31, "refused 31 unknown word at 0x00008000\n"),
+        (
+            &[0xe3a00001, 0xe1a00312],
+            31,
+            "refused 31 unknown word at 0x00008004\n",
+        ),
+        (&[0xe1b0f00e], 31, "refused 31 unknown word at 0x00008000\n"),
+        (&[0x03a00001], 31, "refused 31 unknown word at 0x00008000\n"),
+        (&[0xe3a00001], 32, "refused 32 outside code at 0x00008004\n"),
+        // The return address, the stack pointer and r15 written, and BX of another register.
         (&[0xe3a0e000, 0xe12fff1e], 38, CROOKED),
-        (&[0xe3a00001], 38, CROOKED),
+        (&[0xe24dd004, 0xe12fff1e], 38, CROOKED),
+        (&[0xe1a0f000], 38, CROOKED),
+        (&[0xe12fff10], 38, CROOKED),
     ];
     for (code, status, text) in table {
         let found = answer(rt.alloc(), &words, code)?;
         assert_eq!(rt; found.0, status, "status, {text}");
         assert_eq!(rt; found.1.as_slice(), text.as_bytes());
     }
+    Ok(())
+}
+
+#[test]
+fn refuses_every_front_of_a_file(rt: HostRuntime) -> Result<(), Fail> {
+    let alloc = rt.alloc();
+    let words = words_of(alloc, &["analyse", "a.elf", "unit", "0x8000"])?;
+    let whole = file_of(alloc, &[0xe3a00001, 0xe12fff1e])?;
+    for size in 0..whole.len() {
+        let mut files = Vec::new(alloc);
+        files.push(ShelfFile {
+            name: String::from_str(alloc, "a.elf")?,
+            bytes: Vec::from_slice(alloc, &whole[..size])?,
+        })?;
+        let mut shelf = PlainShelf::new(files);
+        let mut out = PlainSink::new(alloc);
+        let status = wsymb(alloc, &words, &mut shelf, &mut out);
+        let (due, line) = if size < 52 {
+            (10, "refused 10 not an ELF32 ARM executable\n")
+        } else {
+            (11, "refused 11 truncated\n")
+        };
+        assert_eq!(rt; status, due, "{size} bytes");
+        assert_eq!(rt; out.written(), line.as_bytes());
+    }
+    Ok(())
+}
+
+#[test]
+fn walks_along_100_instructions_at_most(rt: HostRuntime) -> Result<(), Fail> {
+    let alloc = rt.alloc();
+    let words = ["analyse", "a.elf", "unit", "0x8000"];
+    let mut code = vec![in alloc; 0xe2800001_u32; 99]?;
+    code.push(0xe12fff1e)?;
+    assert_eq!(rt; answer(alloc, &words, code.as_slice())?.0, 0);
+    code.insert(0, 0xe2800001)?;
+    let found = answer(alloc, &words, code.as_slice())?;
+    assert_eq!(rt; found.0, 38);
+    assert_eq!(rt; found.1.as_slice(), CROOKED.as_bytes());
     Ok(())
 }
 

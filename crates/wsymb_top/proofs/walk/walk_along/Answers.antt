@@ -1,4 +1,4 @@
-use Rattle.std.proofs.Common.{inl, inr, length, length-append, arith}
+use Rattle.std.proofs.Common.{length-append, arith}
 use Rattle.arm_isa.specs.declared.instruction.Insn.{Insn}
 use Rattle.wsymb_top.proofs.Walking.{passed_more, passed_end}
 use Rattle.wsymb_top.proofs.walk.walk_along.Goals as goal
