@@ -3,6 +3,10 @@
 //! `1*%r1 -1*#1 <= 0` says that register 1 holds at most the number of times that loop 1 has closed.
 #![tactic(auto)]
 
+mod forms;
+mod lowest;
 mod rows;
+mod terms;
 
+pub use forms::{ClosingRows, Form, NetChange, Test};
 pub use rows::{Row, RowTerm, Var};

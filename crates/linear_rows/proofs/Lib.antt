@@ -1,0 +1,9 @@
+pub mod VariableOrder
+pub mod Integers
+pub mod TermLists
+pub mod Values
+pub mod Divisors
+pub mod Rounding
+pub mod Normal
+pub mod Combining
+pub mod Making

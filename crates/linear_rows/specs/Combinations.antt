@@ -1,0 +1,19 @@
+-- Inequalities made of others.
+use Rattle.std.specs.Prelude.{ℕ, pos, Option, option_and_then}
+use Rattle.linear_rows.specs.declared.rows.Var.{Var}
+use Rattle.linear_rows.specs.declared.forms.Form.{Form}
+use Rattle.linear_rows.specs.Rows.{Inequality}
+use Rattle.linear_rows.specs.Terms.{factor_of, without_var}
+use Rattle.linear_rows.specs.Forms.{form_of, weighted_within}
+use Rattle.linear_rows.specs.NormalForm.{row_of}
+
+-- a times one inequality plus b times another
+abbrev pub combined : Inequality → ℕ → Inequality → ℕ → Option Inequality
+combined row a other b = option_and_then row_of (weighted_within (pos a) (form_of row) (pos b) (form_of other))
+
+-- the inequality with a form in place of a variable: the other terms, plus the variable's factor times the form
+abbrev pub substituted : Inequality → Var → Form → Option Inequality
+substituted row var form =
+    option_and_then row_of
+    (weighted_within (pos 1) (form_of (record { terms = without_var var row.terms; constant = row.constant }))
+    (factor_of var row.terms) form)
