@@ -7,3 +7,4 @@ pub mod Rounding
 pub mod Normal
 pub mod Combining
 pub mod Making
+pub mod SmallSums

@@ -7,6 +7,7 @@ mod forms;
 mod lowest;
 mod rows;
 mod terms;
+mod weighing;
 
 pub use forms::{ClosingRows, Form, NetChange, Test};
 pub use rows::{Row, RowTerm, Var};
