@@ -148,3 +148,10 @@ substituted_holds v row x form h =
     one_times : (z : ℤ) → pos 1 *ℤ z ≡ z
     one_times (pos n) = ap pos (one-mul n)
     one_times (negsuc n) = ap (λ m. neg_ℤ (pos m)) (one-mul (suc n))
+
+some_under : {A P Q : Type 0} (R : A → Type 0) (o : Option A) → (P → Q → IfSome o R) → IfSome o (λ x. P → Q → R x)
+some_under R None h = tt
+some_under R (Some x) h = h
+
+pub sound_at : (v : Valuation) (row other : Inequality) (a b : ℕ) → IfSome (combined row a other b) (λ new. Holds v row → Holds v other → Holds v new)
+sound_at v row other a b = some_under (Holds v) (combined row a other b) (λ h k. combined_sound v row other a b h k)

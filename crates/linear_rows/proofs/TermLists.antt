@@ -3,12 +3,12 @@ use Rattle.std.proofs.Common.{◌≡◌, ◌≢◌, refl, sym, ap, ◌∙◌, su
 use Rattle.std.specs.Prelude.{if◌then◌else◌}
 use Rattle.std.specs.declared.cmp.Ordering.{Ordering}
 use Rattle.std.specs.declared.cmp.Ordering.TheVariants.{Less, Equal, Greater}
-use Rattle.std.specs.Ordering.{match_ordering}
+use Rattle.std.specs.Ordering.{match_ordering, is_eq}
 use Rattle.std.specs.Cmp.{signed_Decides}
 use Rattle.linear_rows.specs.declared.rows.Var.{Var}
 use Rattle.linear_rows.specs.declared.rows.RowTerm.{RowTerm}
 use Rattle.linear_rows.specs.Variables.{var_cmp}
-use Rattle.linear_rows.specs.Terms.{Follows, IsAscending, HasNoZero, scaled_terms, with_term, summed_terms, is_zero, without_zeros}
+use Rattle.linear_rows.specs.Terms.{Follows, IsAscending, HasNoZero, scaled_terms, with_term, summed_terms, is_zero, without_zeros, without_var}
 use Rattle.linear_rows.proofs.VariableOrder.{same_var, less_trans, greater_less, less_greater}
 
 -- the sum of two terms of one variable
@@ -131,3 +131,19 @@ HasNoZero-without_zeros (t ∷ ts) =
     zero_or_not t.factor
     (λ e. subst HasNoZero (sym (without_zeros_left t ts e)) (HasNoZero-without_zeros ts))
     (λ e. subst HasNoZero (sym (without_zeros_kept t ts e)) (not_zero_of t.factor e, HasNoZero-without_zeros ts))
+
+pub Follows-without_var : (v x : Var) (ts : List RowTerm) → Follows v ts → Follows v (without_var x ts)
+Follows-without_var v x [] h = tt
+Follows-without_var v x (t ∷ ts) h = either_way (is_eq (var_cmp x t.var)) (Follows-without_var v x ts h.1)
+  where
+    either_way : (b : Bool) → Follows v (without_var x ts) → Follows v (if b then without_var x ts else t ∷ without_var x ts)
+    either_way true k = k
+    either_way false k = (h.0, k)
+
+pub IsAscending-without_var : (x : Var) (ts : List RowTerm) → IsAscending ts → IsAscending (without_var x ts)
+IsAscending-without_var x [] h = tt
+IsAscending-without_var x (t ∷ ts) h = either_way (is_eq (var_cmp x t.var)) (IsAscending-without_var x ts h.1)
+  where
+    either_way : (b : Bool) → IsAscending (without_var x ts) → IsAscending (if b then without_var x ts else t ∷ without_var x ts)
+    either_way true k = k
+    either_way false k = (Follows-without_var t.var x ts h.0, k)

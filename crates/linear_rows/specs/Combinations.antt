@@ -1,8 +1,8 @@
 -- Inequalities made of others.
-use Rattle.std.specs.Prelude.{ℕ, pos, Option, option_and_then}
+use Rattle.std.specs.Prelude.{ℕ, pos, Option, option_and_then, ◌+ℤ◌, ◌*ℤ◌, ◌≤ℤ◌, ◌↔◌}
 use Rattle.linear_rows.specs.declared.rows.Var.{Var}
 use Rattle.linear_rows.specs.declared.forms.Form.{Form}
-use Rattle.linear_rows.specs.Rows.{Inequality}
+use Rattle.linear_rows.specs.Rows.{Inequality, Valuation, sum_at, Holds}
 use Rattle.linear_rows.specs.Terms.{factor_of, without_var}
 use Rattle.linear_rows.specs.Forms.{form_of, weighted_within}
 use Rattle.linear_rows.specs.NormalForm.{row_of}
@@ -17,3 +17,8 @@ substituted row var form =
     option_and_then row_of
     (weighted_within (pos 1) (form_of (record { terms = without_var var row.terms; constant = row.constant }))
     (factor_of var row.terms) form)
+
+-- the inequality holds of exactly the integer valuations of which a times one plus b times another holds
+abbrev pub IsCombination : Inequality → ℕ → Inequality → ℕ → Inequality → Type 0
+IsCombination row a other b new = (v : Valuation) → Holds v new ↔
+    (((pos a *ℤ sum_at v row.terms) +ℤ (pos b *ℤ sum_at v other.terms)) ≤ℤ ((pos a *ℤ row.constant) +ℤ (pos b *ℤ other.constant)))

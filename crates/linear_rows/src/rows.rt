@@ -1,9 +1,10 @@
-ghost use Rattle.std.specs.Prelude.{◌≡◌, ◌≤ℤ◌, ◌↔◌, ℤ, pos, ◌+ℤ◌, ◌*ℤ◌, IfOk, IfSome};
+ghost use Rattle.std.specs.Prelude.{◌≡◌, ◌≤ℤ◌, ◌↔◌, ℤ, pos, neg_ℤ, ◌+ℤ◌, ◌*ℤ◌, IfOk, IfSome, option_and_then};
 ghost use Rattle.linear_rows.specs.Rows.{Valuation, sum_at, Holds, changed};
 
 use crate::forms::Form;
-use crate::lowest;
 use crate::terms::Terms;
+use crate::weighing::Weight;
+use crate::{lowest, weighing};
 use std::alloc::{AllocError, Global};
 use std::marker::Model;
 
@@ -60,9 +61,11 @@ impl Model for Row {
 }
 
 impl Row {
-    ghost use Rattle.linear_rows.specs.Terms.{IsCollected};
-    ghost use Rattle.linear_rows.specs.Forms.{value_at};
+    ghost use Rattle.linear_rows.specs.Terms.{IsAscending, IsCollected};
+    ghost use Rattle.linear_rows.specs.Forms.{value_at, weighted_within};
     ghost use Rattle.linear_rows.specs.NormalForm.{row_of, IsRow};
+    ghost use Rattle.linear_rows.specs.Steps.{signed};
+    ghost use Rattle.linear_rows.specs.Combinations.{combined, substituted, IsCombination};
 
     /// The row that says that a form is at most 0: divided by the common divisor of the factors, with the
     /// constant rounded down. A form without terms isn't divided.
@@ -75,6 +78,99 @@ impl Row {
         ensures holds { IfOk result (λ row. IfSome row (λ r. (v : Valuation) → Holds v r ↔ (value_at v form.now ≤ℤ pos 0))) }
     {
         Row::lowest(alloc, form.terms.as_slice(), form.constant)
+    }
+
+    /// `mine` times this row plus `theirs` times the other, divided by the common divisor of the factors,
+    /// with the constant rounded down. It holds wherever both rows hold.
+    ///
+    /// None where a number of the row would have a magnitude of more than 2^90, or where a product, or a sum
+    /// made for one variable or for the constant, has a magnitude of 2^127 or more before the division.
+    pub fn combine(
+        &self,
+        alloc: Global,
+        mine: u128,
+        other: &Row,
+        theirs: u128,
+    ) -> Result<Option<Row>, AllocError>
+        ensures exact { IfOk result (λ row. row ≡ combined self.now mine other.now theirs) }
+        ensures holds { IfOk result (λ row. IfSome row (IsCombination self.now mine other.now theirs)) }
+        ensures sound { IfOk result (λ row. IfSome row (λ r. (v : Valuation) → Holds v self.now → Holds v other.now → Holds v r)) }
+    {
+        let first = self.terms.as_slice();
+        let second = other.terms.as_slice();
+        let a = Weight::times(mine);
+        let b = Weight::times(theirs);
+        let m = self.form_constant();
+        let n = other.form_constant();
+        Row::weighted(alloc, first, m, a, second, n, b)
+    }
+
+    /// This row with a form in place of a variable, divided by the common divisor of the factors, with the
+    /// constant rounded down. It holds of a valuation where this row holds of the valuation with the form's
+    /// value for the variable.
+    ///
+    /// The form's terms must ascend by variable, with no factor 0. None where a number of the row would have
+    /// a magnitude of more than 2^90, or where a product of the variable's factor with a number of the form,
+    /// or a sum made for one variable or for the constant, has a magnitude of 2^127 or more before the
+    /// division.
+    pub fn substitute(
+        &self,
+        alloc: Global,
+        var: Var,
+        form: &Form,
+    ) -> Result<Option<Row>, AllocError>
+        requires { IsCollected form.now.terms }
+        ensures exact { IfOk result (λ row. row ≡ substituted self.now var form.now) }
+        ensures holds { IfOk result (λ row. IfSome row (λ r. (v : Valuation) → Holds v r ↔ Holds (changed v var (value_at v form.now)) self.now)) }
+    {
+        let terms = self.terms.as_slice();
+        let factor = weighing::factor(terms, &var);
+        let others = weighing::without(alloc, terms, &var)?;
+        let xs = others.as_slice();
+        let ys = form.terms.as_slice();
+        let m = self.form_constant();
+        let n = form.constant;
+        Row::weighted(
+            alloc,
+            xs,
+            m,
+            Weight::times(1),
+            ys,
+            n,
+            Weight::signed(factor),
+        )
+    }
+
+    /// The constant of the form that is at most 0 where the row holds.
+    fn form_constant(&self) -> i128
+        ensures { result ≡ neg_ℤ self.now.constant }
+    {
+        -self.constant
+    }
+
+    /// The row of the weighted sum of two forms that is at most 0.
+    fn weighted(
+        alloc: Global,
+        xs: &[RowTerm],
+        m: i128,
+        a: Weight,
+        ys: &[RowTerm],
+        n: i128,
+        b: Weight,
+    ) -> Result<Option<Row>, AllocError>
+        requires first { IsAscending xs.now }
+        requires second { IsAscending ys.now }
+        ensures { IfOk result (λ row. row ≡ option_and_then row_of (weighted_within
+            (signed a.is_negative a.magnitude) (record { terms = xs.now; constant = m })
+            (signed b.is_negative b.magnitude) (record { terms = ys.now; constant = n }))) }
+    {
+        let Some(constant) = weighing::weigh_constants(a, m, b, n) else {
+            return Ok(None);
+        };
+        match weighing::weigh(alloc, xs, a, ys, b)? {
+            Some(terms) => Row::lowest(alloc, terms.as_slice(), constant),
+            None => Ok(None),
+        }
     }
 
     /// The row of a form that is at most 0.

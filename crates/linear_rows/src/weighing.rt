@@ -1,6 +1,6 @@
 ghost use Rattle.std.specs.Prelude.{◌≡◌, ◌≢◌, ◌<◌, ◌+◌, ◌+ℤ◌, ◌*ℤ◌, ℕ, ℤ, pos, neg_ℤ, true, false, Bool, List, [], ◌∷◌, ◌++◌, unsigned_abs, OnOk, IfOk, IfSome, IfNone, MatchOption, Option, Some, None, if◌then◌else◌};
 ghost use Rattle.linear_rows.specs.Variables.{var_cmp};
-ghost use Rattle.linear_rows.specs.Terms.{IsAscending, IsCollected, without_zeros};
+ghost use Rattle.linear_rows.specs.Terms.{IsAscending, IsCollected, without_zeros, factor_of, without_var};
 ghost use Rattle.linear_rows.specs.Forms.{small, weighted_terms_within, weighted_constant_within, terms_stay_small};
 ghost use Rattle.linear_rows.specs.Steps.{signed, TakesFirst};
 
@@ -19,6 +19,28 @@ pub(crate) struct Weight {
     pub(crate) magnitude: u128,
     /// Whether it is the negative of that.
     pub(crate) is_negative: bool,
+}
+
+impl Weight {
+    /// A weight of at least 0.
+    pub(crate) fn times(magnitude: u128) -> Weight
+        ensures { result ≡ record { magnitude = magnitude; is_negative = false } }
+    {
+        Weight {
+            magnitude,
+            is_negative: false,
+        }
+    }
+
+    /// A number as a weight.
+    pub(crate) fn signed(number: i128) -> Weight
+        ensures { signed result.is_negative result.magnitude ≡ number }
+    {
+        Weight {
+            magnitude: number.unsigned_abs(),
+            is_negative: number < 0,
+        }
+    }
 }
 
 /// A magnitude with a sign, where it is below 2^127.
@@ -171,4 +193,29 @@ pub(crate) fn weigh(
         right = first.right;
     }
     Ok(Some(out))
+}
+
+/// The factor of a variable in terms, 0 where it has none.
+pub(crate) fn factor(terms: &[RowTerm], var: &Var) -> i128
+    ensures { result ≡ factor_of var.now terms.now }
+{
+    for term in terms {
+        if order(var, &term.var) == Ordering::Equal {
+            return term.factor;
+        }
+    }
+    0
+}
+
+/// The terms of all other variables.
+pub(crate) fn without(alloc: Global, terms: &[RowTerm], var: &Var) -> Result<Terms, AllocError>
+    ensures { IfOk result (λ ts. ts ≡ without_var var.now terms.now) }
+{
+    let mut out = Terms::new(alloc);
+    for term in terms {
+        if order(var, &term.var) != Ordering::Equal {
+            out.push(*term)?;
+        }
+    }
+    Ok(out)
 }
