@@ -12,12 +12,12 @@ use Rattle.linear_rows.specs.declared.forms.Form.{Form}
 use Rattle.linear_rows.specs.Rows.{Inequality, Valuation, sum_at, Holds}
 use Rattle.linear_rows.specs.Terms.{Follows, IsAscending, HasNoZero, IsCollected}
 use Rattle.linear_rows.specs.Forms.{value_at}
-use Rattle.linear_rows.specs.NormalForm.{floor, divided, divisor_of, is_within, all_within, lowest, row_fits, row_of, IsRow}
+use Rattle.linear_rows.specs.NormalForm.{DividesEach, floor, divided, divisor_of, is_within, all_within, lowest, row_fits, row_of, IsRow}
 use Rattle.linear_rows.proofs.Integers.{mul-add, mul_assoc}
-use Rattle.linear_rows.proofs.Divisors.{DividesFactors, divisor_of-divides, divides-divisor_of, divisor_of-positive}
+use Rattle.linear_rows.proofs.Divisors.{divisor_of-divides, divides-divisor_of, divisor_of-positive}
 use Rattle.linear_rows.proofs.Rounding.{floor_exact, floor_holds, holds_floor}
 
-pub sum_at-divided : (v : Valuation) (d : ℕ) (ts : List RowTerm) → 0 < d → DividesFactors d ts → pos d *ℤ sum_at v (divided d ts) ≡ sum_at v ts
+pub sum_at-divided : (v : Valuation) (d : ℕ) (ts : List RowTerm) → 0 < d → DividesEach d ts → pos d *ℤ sum_at v (divided d ts) ≡ sum_at v ts
 sum_at-divided v d [] h k = *ℤ-zero (pos d)
 sum_at-divided v d (t ∷ ts) h k =
     let rest = sum_at-divided v d ts h k.1 in
@@ -37,7 +37,7 @@ IsAscending-divided d (t ∷ ts) h = (Follows-divided t.var d ts h.0, IsAscendin
 still_not_zero : (z : ℤ) (d : ℕ) → 0 < d → d ∣ unsigned_abs z → z ≢ pos 0 → floor z d ≢ pos 0
 still_not_zero z d h k other e = other (sym (floor_exact z d h k) ∙ ap (λ x. pos d *ℤ x) e ∙ *ℤ-zero (pos d))
 
-pub HasNoZero-divided : (d : ℕ) (ts : List RowTerm) → 0 < d → DividesFactors d ts → HasNoZero ts → HasNoZero (divided d ts)
+pub HasNoZero-divided : (d : ℕ) (ts : List RowTerm) → 0 < d → DividesEach d ts → HasNoZero ts → HasNoZero (divided d ts)
 HasNoZero-divided d [] h k n = tt
 HasNoZero-divided d (t ∷ ts) h k n = (still_not_zero t.factor d h k.0 n.0, HasNoZero-divided d ts h k.1 n.1)
 
@@ -47,9 +47,9 @@ divides_more e d z h k m =
     subst (λ x. d * e ∣ x) (sym (unsigned_abs-mul (pos d) (floor z d)) ∙ ap unsigned_abs (floor_exact z d h k))
     (mul-dvd-mul_left e d m)
 
-DividesFactors-divided : (e d : ℕ) (ts : List RowTerm) → 0 < d → DividesFactors d ts → DividesFactors e (divided d ts) → DividesFactors (d * e) ts
-DividesFactors-divided e d [] h k m = tt
-DividesFactors-divided e d (t ∷ ts) h k m = (divides_more e d t.factor h k.0 m.0, DividesFactors-divided e d ts h k.1 m.1)
+DividesEach-divided : (e d : ℕ) (ts : List RowTerm) → 0 < d → DividesEach d ts → DividesEach e (divided d ts) → DividesEach (d * e) ts
+DividesEach-divided e d [] h k m = tt
+DividesEach-divided e d (t ∷ ts) h k m = (divides_more e d t.factor h k.0 m.0, DividesEach-divided e d ts h k.1 m.1)
 
 one_of : (d e : ℕ) → 0 < d → 0 < e → d * e ∣ d → e ≡ 1
 one_of d e h k m =
@@ -64,11 +64,11 @@ divisor_of-divided (t ∷ ts) h =
     let all : List RowTerm = t ∷ ts in
     let d : ℕ = divisor_of all in
     let positive : 0 < d = divisor_of-positive all h in
-    let divides : DividesFactors d all = divisor_of-divides all in
+    let divides : DividesEach d all = divisor_of-divides all in
     let parts : List RowTerm = divided d all in
     let e : ℕ = divisor_of parts in
     one_of d e positive (divisor_of-positive parts (HasNoZero-divided d all positive divides h))
-    (divides-divisor_of (d * e) t ts (DividesFactors-divided e d all positive divides (divisor_of-divides parts)))
+    (divides-divisor_of (d * e) t ts (DividesEach-divided e d all positive divides (divisor_of-divides parts)))
 
 -- the constant rounded down loses no integer valuation, and lets none in
 pub holds_divided : (v : Valuation) (f : Form) → HasNoZero f.terms →

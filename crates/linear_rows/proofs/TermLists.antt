@@ -1,6 +1,6 @@
 -- Lists of terms keep their order.
 use Rattle.std.proofs.Common.{◌≡◌, ◌≢◌, refl, sym, ap, ◌∙◌, subst, ℤ, pos, ◌+ℤ◌, List, [], ◌∷◌, Bool, true, false}
-use Rattle.std.specs.Prelude.{if◌then◌else◌}
+use Rattle.std.specs.Prelude.{if◌then◌else◌, ◌↔◌}
 use Rattle.std.specs.declared.cmp.Ordering.{Ordering}
 use Rattle.std.specs.declared.cmp.Ordering.TheVariants.{Less, Equal, Greater}
 use Rattle.std.specs.Ordering.{match_ordering, is_eq}
@@ -8,7 +8,7 @@ use Rattle.std.specs.Cmp.{signed_Decides}
 use Rattle.linear_rows.specs.declared.rows.Var.{Var}
 use Rattle.linear_rows.specs.declared.rows.RowTerm.{RowTerm}
 use Rattle.linear_rows.specs.Variables.{var_cmp}
-use Rattle.linear_rows.specs.Terms.{Follows, IsAscending, HasNoZero, scaled_terms, with_term, summed_terms, is_zero, without_zeros, without_var}
+use Rattle.linear_rows.specs.Terms.{ComesBefore, IsCollected, Follows, IsAscending, HasNoZero, scaled_terms, with_term, summed_terms, is_zero, without_zeros, without_var}
 use Rattle.linear_rows.proofs.VariableOrder.{same_var, less_trans, greater_less, less_greater}
 
 -- the sum of two terms of one variable
@@ -147,3 +147,30 @@ IsAscending-without_var x (t ∷ ts) h = either_way (is_eq (var_cmp x t.var)) (I
     either_way : (b : Bool) → IsAscending (without_var x ts) → IsAscending (if b then without_var x ts else t ∷ without_var x ts)
     either_way true k = k
     either_way false k = (Follows-without_var t.var x ts h.0, k)
+
+follows_first : (t : RowTerm) (ts : List RowTerm) → ComesBefore t ts → IsAscending ts → Follows t.var ts
+follows_first t [] h k = tt
+follows_first t (u ∷ us) h k = (h, follows_before t.var u.var us h k.0)
+
+comes_first : (t : RowTerm) (ts : List RowTerm) → Follows t.var ts → ComesBefore t ts
+comes_first t [] h = tt
+comes_first t (u ∷ us) h = h.0
+
+-- like terms are collected where the first term is right and the rest are collected
+pub IsCollected-cons : (t : RowTerm) (ts : List RowTerm) → t.factor ≢ pos 0 → ComesBefore t ts → IsCollected ts → IsCollected (t ∷ ts)
+IsCollected-cons t ts n h k = record {
+  ascending = (follows_first t ts h k.ascending, k.ascending);
+  nonzero = (n, k.nonzero);
+}
+
+pub IsCollected-rest : (t : RowTerm) (ts : List RowTerm) → IsCollected (t ∷ ts) → (t.factor ≢ pos 0) × ComesBefore t ts × IsCollected ts
+IsCollected-rest t ts h =
+    (h.nonzero.0, comes_first t ts h.ascending.0, record { ascending = h.ascending.1; nonzero = h.nonzero.1 })
+
+-- what the rest of a list says of a whole, the list says of it
+pub rest_collected : {P : Type 0} (t : RowTerm) (ts xs : List RowTerm) → xs ≡ t ∷ ts → t.factor ≢ pos 0 → ComesBefore t ts →
+    (IsCollected xs ↔ P) → (IsCollected ts ↔ P)
+rest_collected t ts xs e n h k = (
+  λ m. k.0 (subst (λ (us : List RowTerm). IsCollected us) (sym e) (IsCollected-cons t ts n h m)),
+  λ p. (IsCollected-rest t ts (subst (λ (us : List RowTerm). IsCollected us) e (k.1 p))).2,
+)

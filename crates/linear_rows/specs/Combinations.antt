@@ -18,7 +18,11 @@ substituted row var form =
     (weighted_within (pos 1) (form_of (record { terms = without_var var row.terms; constant = row.constant }))
     (factor_of var row.terms) form)
 
--- the inequality holds of exactly the integer valuations of which a times one plus b times another holds
-abbrev pub IsCombination : Inequality → ℕ → Inequality → ℕ → Inequality → Type 0
-IsCombination row a other b new = (v : Valuation) → Holds v new ↔
+-- at a valuation the inequality holds exactly where a times one plus b times another does
+abbrev pub IsCombinationAt : Valuation → Inequality → ℕ → Inequality → ℕ → Inequality → Type 0
+IsCombinationAt v row a other b new = Holds v new ↔
     (((pos a *ℤ sum_at v row.terms) +ℤ (pos b *ℤ sum_at v other.terms)) ≤ℤ ((pos a *ℤ row.constant) +ℤ (pos b *ℤ other.constant)))
+
+-- it does so at each
+abbrev pub IsCombination : Inequality → ℕ → Inequality → ℕ → Inequality → Type 0
+IsCombination row a other b new = (v : Valuation) → IsCombinationAt v row a other b new

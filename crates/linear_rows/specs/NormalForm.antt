@@ -1,7 +1,7 @@
 -- The normal form of an inequality over the integers: divided by the common divisor of its factors, with
 -- its constant rounded down.
 use Rattle.std.specs.Prelude.{◌≡◌, ℕ, zero, suc, ◌%◌, ◌^◌, ◌==◌, nat_le, ℤ, pos, neg_ℤ, unsigned_abs, List, [], ◌∷◌, Bool, true, ◌&&◌, Option, Some, None, if◌then◌else◌}
-use Rattle.std.specs.Int.{int_div_euclid}
+use Rattle.std.specs.Int.{int_div_euclid, ◌∣◌}
 use Rattle.linear_rows.specs.declared.rows.RowTerm.{RowTerm}
 use Rattle.linear_rows.specs.declared.forms.Form.{Form}
 use Rattle.linear_rows.specs.Rows.{Inequality}
@@ -20,6 +20,11 @@ gcd a b = euclid b a b
 abbrev pub common_divisor : ℕ → List RowTerm → ℕ
 common_divisor d [] = d
 common_divisor d (t ∷ ts) = common_divisor (gcd d (unsigned_abs t.factor)) ts
+
+-- the number divides each factor
+abbrev pub DividesEach : ℕ → List RowTerm → Type 0
+DividesEach d [] = Unit {0}
+DividesEach d (t ∷ ts) = (d ∣ unsigned_abs t.factor) × DividesEach d ts
 
 -- what terms are divided by: the greatest common divisor of their factors, and 1 where there are none
 abbrev pub divisor_of : List RowTerm → ℕ

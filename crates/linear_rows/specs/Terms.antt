@@ -19,6 +19,11 @@ abbrev pub HasNoZero : List RowTerm → Type 0
 HasNoZero [] = Unit {0}
 HasNoZero (t ∷ ts) = (t.factor ≢ pos 0) × HasNoZero ts
 
+-- the term's variable comes before that of the first of some terms
+abbrev pub ComesBefore : RowTerm → List RowTerm → Type 0
+ComesBefore t [] = Unit {0}
+ComesBefore t (u ∷ us) = var_cmp t.var u.var ≡ Less
+
 -- like terms are collected: variables in ascending order, none twice, no factor 0
 pub record IsCollected (terms : List RowTerm) : Type 0 where
   pub ascending : IsAscending terms

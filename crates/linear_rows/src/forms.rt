@@ -1,5 +1,10 @@
+ghost use Rattle.std.specs.Prelude.{IsTrue, ◌↔◌};
+ghost use Rattle.linear_rows.specs.Terms.{ComesBefore};
+
 use crate::rows::{Row, RowTerm, Var};
+use crate::weighing::order;
 use sqlite_items::Items;
+use std::cmp::Ordering;
 
 /// A sum of terms plus a constant.
 ///
@@ -11,6 +16,34 @@ pub struct Form {
     pub terms: Items<RowTerm>,
     /// What is added to the sum.
     pub constant: i128,
+}
+
+impl Form {
+    ghost use Rattle.linear_rows.specs.Terms.{IsCollected};
+
+    /// Whether the variables of the terms ascend, none twice, and no factor is 0.
+    pub fn is_collected(&self) -> bool
+        ensures { IsTrue result ↔ IsCollected self.now.terms }
+    {
+        let mut left = self.terms.as_slice();
+        while let Some((term, rest)) = left.split_first() {
+            if term.factor == 0 || !comes_before(term, rest) {
+                return false;
+            }
+            left = rest;
+        }
+        true
+    }
+}
+
+/// Whether a term's variable comes before that of the first of some terms, if there is one.
+fn comes_before(term: &RowTerm, rest: &[RowTerm]) -> bool
+    ensures { IsTrue result ↔ ComesBefore term.now rest.now }
+{
+    match rest.first() {
+        Some(next) => order(&term.var, &next.var) == Ordering::Less,
+        None => true,
+    }
 }
 
 /// By how much a register or word changes in one turn of a loop.
