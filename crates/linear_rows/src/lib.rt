@@ -1,6 +1,16 @@
-//! Rows: linear inequalities between the places of a machine state, its parameters and its loop counts.
+//! Rows: linear inequalities with whole numbers between the places of a machine state, its parameters and
+//! its loop counts.
 //!
-//! `1*%r1 -1*#1 <= 0` says that register 1 holds at most the number of times that loop 1 has closed.
+//! A row says that a sum of factors times variables is at most a constant: `1*%r1 -1*#1 <= 0` says that
+//! register 1 holds at most the number of times that loop 1 has closed. Rows are kept in lowest terms, which
+//! over the integers loses nothing: `2x <= 3` is `x <= 1`.
+//!
+//! ```text
+//! let form = Form { terms: [RowTerm { var: x, factor: 2 }], constant: -3 };   // 2x - 3
+//! let row = Row::make(alloc, &form)?;                                         // x <= 1
+//! let sum = row.combine(alloc, 1, &other, 1)?;       // with -x + y <= 0 for the other row: y <= 1
+//! let moved = row.substitute(alloc, x, &next)?;      // with z + 1 for the next form: z <= 0
+//! ```
 #![tactic(auto)]
 
 mod forms;
@@ -8,6 +18,8 @@ mod laws;
 mod lowest;
 mod rows;
 mod terms;
+#[cfg(test)]
+mod tests;
 mod weighing;
 
 pub use forms::{ClosingRows, Form, NetChange, Test};

@@ -10,7 +10,7 @@ const MOST: u128 = 1 << 90;
 
 /// The greatest common divisor of two numbers, by Euclid's algorithm.
 #[tactic(auto, using(crate::proofs::Divisors::gcd_step, crate::proofs::Divisors::gcd_zero))]
-fn greatest_common_divisor(mut first: u128, mut second: u128) -> u128
+pub(crate) fn greatest_common_divisor(mut first: u128, mut second: u128) -> u128
     ensures { result ≡ gcd first second }
 {
     while second != 0 {
