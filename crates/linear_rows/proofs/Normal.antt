@@ -1,9 +1,9 @@
 -- The normal form holds of the integer valuations of its form, and is a row.
-use Rattle.std.proofs.Common.{◌≡◌, ◌≢◌, refl, sym, ap, ◌∙◌, subst, ℕ, ◌*◌, ◌<◌, ◌≤◌, ℤ, pos, neg_ℤ, ◌+ℤ◌, ◌*ℤ◌, ◌≤ℤ◌, List, [], ◌∷◌, Bool, true, false, Some, None, arith}
+use Rattle.std.proofs.Common.{negsuc, ◌≡◌, ◌≢◌, refl, sym, ap, ◌∙◌, subst, ℕ, ◌*◌, ◌<◌, ◌≤◌, ℤ, pos, neg_ℤ, ◌+ℤ◌, ◌*ℤ◌, ◌≤ℤ◌, List, [], ◌∷◌, Bool, true, false, Some, None, arith}
 use Rattle.std.specs.Prelude.{if◌then◌else◌, unsigned_abs, ◌↔◌, ◌&&◌, IfSome}
 use Rattle.std.specs.Int.{◌∣◌}
-use Rattle.std.proofs.Math.IntN.{*ℤ-zero}
-use Rattle.std.proofs.Math.Nat.{mul-dvd-mul_left, dvd_of_mul-dvd-mul_left}
+use Rattle.std.proofs.Math.IntN.{neg_ℤ-neg_ℤ, *ℤ-zero}
+use Rattle.std.proofs.Math.Nat.{div-one, mul-dvd-mul_left, dvd_of_mul-dvd-mul_left}
 use Rattle.std.proofs.lemmas.Nat.Gcd.{le_of_dvd}
 use Rattle.std.proofs.lemmas.Int.{ints, unsigned_abs-mul}
 use Rattle.linear_rows.specs.declared.rows.Var.{Var}
@@ -11,7 +11,7 @@ use Rattle.linear_rows.specs.declared.rows.RowTerm.{RowTerm}
 use Rattle.linear_rows.specs.declared.forms.Form.{Form}
 use Rattle.linear_rows.specs.Rows.{Inequality, Valuation, sum_at, Holds}
 use Rattle.linear_rows.specs.Terms.{Follows, IsAscending, HasNoZero, IsCollected}
-use Rattle.linear_rows.specs.Forms.{value_at}
+use Rattle.linear_rows.specs.Forms.{value_at, form_of}
 use Rattle.linear_rows.specs.NormalForm.{DividesEach, floor, divided, divisor_of, is_within, all_within, lowest, row_fits, row_of, IsRow}
 use Rattle.linear_rows.proofs.Integers.{mul-add, mul_assoc}
 use Rattle.linear_rows.proofs.Divisors.{divisor_of-divides, divides-divisor_of, divisor_of-positive}
@@ -118,3 +118,26 @@ lowest_is_row f h e =
 
 pub row_of_is_row : (f : Form) → IsCollected f.terms → IfSome (row_of f) (λ row. IsRow row.terms row.constant)
 row_of_is_row f h = if_some {A = Inequality} (λ row. IsRow row.terms row.constant) (row_fits (lowest f)) (lowest f) (λ e. lowest_is_row f h e)
+
+floor_one : (z : ℤ) → floor z 1 ≡ z
+floor_one (pos n) = ap pos (div-one n)
+floor_one (negsuc n) = ap negsuc (div-one n)
+
+divided_one : (ts : List RowTerm) → divided 1 ts ≡ ts
+divided_one [] = refl
+divided_one (t ∷ ts) = λ i. record { var = t.var; factor = floor_one t.factor i } ∷ divided_one ts i
+
+-- a row is its own normal form
+pub row_of_row : (row : Inequality) → IsRow row.terms row.constant → row_of (form_of row) ≡ Some row
+row_of_row row h =
+    let same : lowest (form_of row) ≡ row =
+    ap (λ (d : ℕ). lowest_by d) h.lowest ∙ (λ i. record { terms = divided_one row.terms i; constant = (ap (λ (z : ℤ). floor z 1) (neg_ℤ-neg_ℤ row.constant) ∙ floor_one row.constant) i }) in
+    let fits : row_fits (lowest (form_of row)) ≡ true = ap row_fits same ∙ both_fit (all_within row.terms) (is_within row.constant) h.terms_within h.constant_within in
+    ap (λ (b : Bool). if b then Some (lowest (form_of row)) else None) fits ∙ ap (λ (r : Inequality). Some r) same
+  where
+    lowest_by : ℕ → Inequality
+    lowest_by d = record { terms = divided d row.terms; constant = floor (neg_ℤ (neg_ℤ row.constant)) d }
+
+    both_fit : (a b : Bool) → a ≡ true → b ≡ true → (a && b) ≡ true
+    both_fit true b e f = f
+    both_fit false b e f = absurd (cc)

@@ -1,11 +1,11 @@
-ghost use Rattle.std.specs.Prelude.{◌≡◌, ◌≢◌, ◌≤ℤ◌, ◌↔◌, ℕ, ℤ, pos, [], List, IfSome};
+ghost use Rattle.std.specs.Prelude.{◌≡◌, ◌≢◌, ◌≤ℤ◌, ◌↔◌, ℕ, ℤ, pos, [], List, IfSome, Some};
 ghost use Rattle.std.specs.Int.{◌∣◌};
 ghost use Rattle.linear_rows.specs.declared.rows.Var.{Var as Variable};
 ghost use Rattle.linear_rows.specs.declared.rows.RowTerm.{RowTerm as Term};
 ghost use Rattle.linear_rows.specs.declared.forms.Form.{Form as LinearForm};
 ghost use Rattle.linear_rows.specs.Rows.{Inequality, Valuation, Holds, changed};
 ghost use Rattle.linear_rows.specs.Terms.{IsAscending, IsCollected, HasNoZero};
-ghost use Rattle.linear_rows.specs.Forms.{value_at};
+ghost use Rattle.linear_rows.specs.Forms.{value_at, form_of};
 ghost use Rattle.linear_rows.specs.NormalForm.{row_of, divisor_of as common_divisor_of, DividesEach, IsRow};
 ghost use Rattle.linear_rows.specs.Combinations.{combined, substituted, IsCombinationAt};
 
@@ -18,6 +18,11 @@ pub fn rounding_keeps_integers()
 /// The row of a form with its terms collected is in normal form.
 pub fn rows_are_in_normal_form()
     ensures { (form : LinearForm) → IsCollected form.terms → IfSome (row_of form) (λ row. IsRow row.terms row.constant) }
+{}
+
+/// A row is its own normal form: the row of its form is the row itself.
+pub fn rows_are_their_own_normal_form()
+    ensures { (row : Inequality) → IsRow row.terms row.constant → row_of (form_of row) ≡ Some row }
 {}
 
 /// What the factors are divided by divides each of them, and each number that divides them all divides it.

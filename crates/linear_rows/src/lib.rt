@@ -25,6 +25,7 @@ mod weighing;
 pub use forms::{ClosingRows, Form, NetChange, Test};
 pub use laws::{
     combination_holds, combination_is_the_weighted_sum, divisor_is_greatest,
-    rounding_keeps_integers, rows_are_in_normal_form, substitution_commutes,
+    rounding_keeps_integers, rows_are_in_normal_form, rows_are_their_own_normal_form,
+    substitution_commutes,
 };
 pub use rows::{Row, RowTerm, Var};

@@ -24,6 +24,10 @@ pub enum Var {
 }
 
 impl Default for Var {
+    ghost use Rattle.linear_rows.specs.declared.rows.Var.TheVariants.{StartSp};
+
+    ghost is_default = { λ v. v ≡ StartSp };
+
     /// The stack pointer at the start.
     fn default() -> Self {
         Var::StartSp

@@ -2,7 +2,8 @@
 
 use crate::{
     Form, Row, RowTerm, Var, combination_holds, combination_is_the_weighted_sum,
-    divisor_is_greatest, rounding_keeps_integers, rows_are_in_normal_form, substitution_commutes,
+    divisor_is_greatest, rounding_keeps_integers, rows_are_in_normal_form,
+    rows_are_their_own_normal_form, substitution_commutes,
 };
 use sqlite_items::Items;
 use std::alloc::{AllocError, Global};
@@ -323,6 +324,7 @@ fn tells_whether_a_form_is_collected(rt: HostRuntime) -> Result<(), Fail> {
 fn laws_are_calls() {
     rounding_keeps_integers();
     rows_are_in_normal_form();
+    rows_are_their_own_normal_form();
     divisor_is_greatest();
     combination_is_the_weighted_sum();
     combination_holds();
