@@ -1,14 +1,14 @@
 -- A row that is made of its parts, and what each call that makes a row owes.
-use Rattle.std.proofs.Common.{◌≡◌, refl, sym, ap, ◌∙◌, subst, ℕ, ◌<◌, ℤ, pos, neg_ℤ, ◌≤ℤ◌, List, Bool, true, false, Option, Some, None, Result}
-use Rattle.std.specs.Prelude.{if◌then◌else◌, ◌↔◌, ◌&&◌, IfSome, IfOk, option_and_then}
+use Rattle.std.proofs.Common.{◌≡◌, refl, sym, ap, ◌∙◌, subst, ℕ, ◌<◌, ℤ, pos, neg_ℤ, List, Bool, true, false, Option, Some, None, Result}
+use Rattle.std.specs.Prelude.{if◌then◌else◌, ◌&&◌, IfSome, IfOk, option_and_then}
 use Rattle.std.proofs.lemmas.Result.{IfOk-weaker}
 use Rattle.linear_rows.specs.declared.rows.RowTerm.{RowTerm}
 use Rattle.linear_rows.specs.declared.forms.Form.{Form}
-use Rattle.linear_rows.specs.Rows.{Inequality, Valuation, Holds}
+use Rattle.linear_rows.specs.Rows.{Inequality, Valuation}
 use Rattle.linear_rows.specs.Terms.{IsCollected, factor_of, without_var}
 use Rattle.linear_rows.specs.declared.rows.Var.{Var}
-use Rattle.linear_rows.specs.Combinations.{combined, substituted}
-use Rattle.linear_rows.specs.Forms.{value_at, terms_stay_small, constants_stay_small, weighted_terms, weighted_constant, weighted_terms_within, weighted_constant_within, weighted_within}
+use Rattle.linear_rows.specs.Combinations.{combined, substituted, IsRowOf}
+use Rattle.linear_rows.specs.Forms.{terms_stay_small, constants_stay_small, weighted_terms, weighted_constant, weighted_terms_within, weighted_constant_within, weighted_within}
 use Rattle.linear_rows.specs.NormalForm.{divisor_of, divided, floor, is_within, all_within, number_within, terms_within, lowest, row_fits, row_of, IsRow}
 use Rattle.linear_rows.proofs.Normal.{if_some, holds_divided, lowest_is_row}
 use Rattle.linear_rows.proofs.Divisors.{divisor_of-positive}
@@ -37,14 +37,11 @@ row_of_parts ts k d terms constant h e p q =
     let row : IsRow (lowest f).terms (lowest f).constant = lowest_is_row f h (both_hold (all_within (lowest f).terms) (is_within (lowest f).constant) other.0 one.0) in
     subst (λ (z : ℤ). IsRow terms z) one.1 (subst (λ (x : List RowTerm). IsRow x (lowest f).constant) other.1 row)
 
-abbrev pub HoldsOf : Form → Inequality → Type 0
-HoldsOf f row = (v : Valuation) → Holds v row ↔ (value_at v f ≤ℤ pos 0)
-
-pub made_holds : {E : Type 0} (f : Form) (r : Result (Option Inequality) E) → IsCollected f.terms → IfOk r (λ row. row ≡ row_of f) → IfOk r (λ row. IfSome row (HoldsOf f))
+pub made_holds : {E : Type 0} (f : Form) (r : Result (Option Inequality) E) → IsCollected f.terms → IfOk r (λ row. row ≡ row_of f) → IfOk r (λ row. IfSome row (IsRowOf f))
 made_holds {E} f r h k =
-    IfOk-weaker r (λ row. row ≡ row_of f) (λ row. IfSome row (HoldsOf f))
-    (λ row e. subst (λ (o : Option Inequality). IfSome o (HoldsOf f)) (sym e)
-    (if_some {A = Inequality} (HoldsOf f) (row_fits (lowest f)) (lowest f) (λ fits v. holds_divided v f h.nonzero))) k
+    IfOk-weaker r (λ row. row ≡ row_of f) (λ row. IfSome row (IsRowOf f))
+    (λ row e. subst (λ (o : Option Inequality). IfSome o (IsRowOf f)) (sym e)
+    (if_some {A = Inequality} (IsRowOf f) (row_fits (lowest f)) (lowest f) (λ fits v. holds_divided v f h.nonzero))) k
 
 -- the parts of a weighted sum of two forms give its row
 pub weighted_row : {E : Type 0} (a m b n : ℤ) (xs ys : List RowTerm) (constant : ℤ) (terms : List RowTerm) (r : Result (Option Inequality) E) →

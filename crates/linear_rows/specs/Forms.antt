@@ -5,6 +5,7 @@ use Rattle.linear_rows.specs.declared.forms.Form.{Form}
 use Rattle.linear_rows.specs.Rows.{Inequality, Valuation, sum_at}
 use Rattle.linear_rows.specs.Terms.{scaled_terms, summed_terms, without_zeros}
 
+-- the sum of the terms plus the constant
 abbrev pub value_at : Valuation → Form → ℤ
 value_at v form = sum_at v form.terms +ℤ form.constant
 
@@ -12,9 +13,11 @@ value_at v form = sum_at v form.terms +ℤ form.constant
 abbrev pub form_of : Inequality → Form
 form_of row = record { terms = row.terms; constant = neg_ℤ row.constant }
 
+-- the magnitude is below 2^127, the limit on what is made before a division
 abbrev pub is_small : ℤ → Bool
 is_small z = nat_lt (unsigned_abs z) (2 ^ 127)
 
+-- the number, where it is
 abbrev pub small : ℤ → Option ℤ
 small z = if is_small z then Some z else None
 
@@ -28,6 +31,7 @@ terms_stay_small a xs b ys =
     all_small (scaled_terms a xs) && all_small (scaled_terms b ys)
     && all_small (summed_terms (scaled_terms a xs) (scaled_terms b ys))
 
+-- the same of two constants
 abbrev pub constants_stay_small : ℤ → ℤ → ℤ → ℤ → Bool
 constants_stay_small a m b n = is_small (a *ℤ m) && is_small (b *ℤ n) && is_small ((a *ℤ m) +ℤ (b *ℤ n))
 
@@ -48,6 +52,7 @@ abbrev pub weighted : ℤ → Form → ℤ → Form → Form
 weighted a f b g =
     record { terms = weighted_terms a f.terms b g.terms; constant = weighted_constant a f.constant b g.constant }
 
+-- the same, where each product and each sum stays below the limit
 abbrev pub weighted_within : ℤ → Form → ℤ → Form → Option Form
 weighted_within a f b g =
     if terms_stay_small a f.terms b g.terms && constants_stay_small a f.constant b g.constant

@@ -35,10 +35,12 @@ divisor_of (t ∷ ts) = common_divisor 0 (t ∷ ts)
 abbrev pub floor : ℤ → ℕ → ℤ
 floor z d = int_div_euclid z (pos d)
 
+-- each factor divided
 abbrev pub divided : ℕ → List RowTerm → List RowTerm
 divided d [] = []
 divided d (t ∷ ts) = record { var = t.var; factor = floor t.factor d } ∷ divided d ts
 
+-- the magnitude is at most 2^90, the limit on the numbers of a row
 abbrev pub is_within : ℤ → Bool
 is_within z = nat_le (unsigned_abs z) (2 ^ 90)
 
@@ -46,6 +48,7 @@ abbrev pub all_within : List RowTerm → Bool
 all_within [] = true
 all_within (t ∷ ts) = is_within t.factor && all_within ts
 
+-- the number, where a row may have it
 abbrev pub number_within : ℤ → Option ℤ
 number_within z = if is_within z then Some z else None
 

@@ -5,6 +5,7 @@ use Rattle.linear_rows.specs.declared.rows.Var.{Var}
 use Rattle.linear_rows.specs.declared.rows.RowTerm.{RowTerm}
 use Rattle.linear_rows.specs.Variables.{var_cmp}
 
+-- the sum of the terms is at most the constant
 pub record Inequality : Type 0 where
   pub terms : List RowTerm
   pub constant : ℤ
@@ -18,6 +19,7 @@ abbrev pub sum_at : Valuation → List RowTerm → ℤ
 sum_at v [] = pos 0
 sum_at v (t ∷ ts) = (t.factor *ℤ v t.var) +ℤ sum_at v ts
 
+-- the inequality is true where each variable has its number
 abbrev pub Holds : Valuation → Inequality → Type 0
 Holds v row = sum_at v row.terms ≤ℤ row.constant
 

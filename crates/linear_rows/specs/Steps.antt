@@ -5,6 +5,7 @@ use Rattle.linear_rows.specs.declared.rows.RowTerm.{RowTerm}
 use Rattle.linear_rows.specs.Terms.{IsAscending, scaled_terms, summed_terms}
 use Rattle.linear_rows.specs.Forms.{terms_stay_small}
 
+-- a magnitude with its sign
 abbrev pub signed : Bool → ℕ → ℤ
 signed is_negative magnitude = if is_negative then neg_ℤ (pos magnitude) else pos magnitude
 

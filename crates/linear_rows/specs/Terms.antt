@@ -11,10 +11,12 @@ abbrev pub Follows : Var → List RowTerm → Type 0
 Follows var [] = Unit {0}
 Follows var (t ∷ ts) = (var_cmp var t.var ≡ Less) × Follows var ts
 
+-- the variables ascend, none twice
 abbrev pub IsAscending : List RowTerm → Type 0
 IsAscending [] = Unit {0}
 IsAscending (t ∷ ts) = Follows t.var ts × IsAscending ts
 
+-- no factor is 0
 abbrev pub HasNoZero : List RowTerm → Type 0
 HasNoZero [] = Unit {0}
 HasNoZero (t ∷ ts) = (t.factor ≢ pos 0) × HasNoZero ts
@@ -29,6 +31,7 @@ pub record IsCollected (terms : List RowTerm) : Type 0 where
   pub ascending : IsAscending terms
   pub nonzero : HasNoZero terms
 
+-- the factors times a number
 abbrev pub scaled_term : ℤ → RowTerm → RowTerm
 scaled_term a t = record { var = t.var; factor = a *ℤ t.factor }
 
@@ -53,6 +56,7 @@ summed_terms (x ∷ xs) ts = with_term x (summed_terms xs ts)
 abbrev pub is_zero : ℤ → Bool
 is_zero z = int_eq z (pos 0)
 
+-- the terms with a factor other than 0
 abbrev pub without_zeros : List RowTerm → List RowTerm
 without_zeros [] = []
 without_zeros (t ∷ ts) = if is_zero t.factor then without_zeros ts else t ∷ without_zeros ts

@@ -22,5 +22,6 @@ number_of (Param n) = pos n
 number_of StartSp = pos 0
 number_of (Count n) = pos n
 
+-- by kind, and then by number
 abbrev pub var_cmp : Var → Var → Ordering
 var_cmp a b = ordering_then (nat_cmp (kind_of a) (kind_of b)) (int_cmp (number_of a) (number_of b))

@@ -12,12 +12,14 @@ ghost use Rattle.linear_rows.specs.Combinations.{combined, substituted, IsCombin
 /// Rounding loses no integer valuation and lets none in: the row of a form holds of exactly the valuations
 /// at which the form is at most 0.
 pub fn rounding_keeps_integers()
-    ensures { (v : Valuation) (form : LinearForm) → HasNoZero form.terms → IfSome (row_of form) (λ row. Holds v row ↔ (value_at v form ≤ℤ pos 0)) }
+    ensures { (v : Valuation) (form : LinearForm) → HasNoZero form.terms →
+        IfSome (row_of form) (λ row. Holds v row ↔ (value_at v form ≤ℤ pos 0)) }
 {}
 
 /// The row of a form with its terms collected is in normal form.
 pub fn rows_are_in_normal_form()
-    ensures { (form : LinearForm) → IsCollected form.terms → IfSome (row_of form) (λ row. IsRow row.terms row.constant) }
+    ensures { (form : LinearForm) → IsCollected form.terms →
+        IfSome (row_of form) (λ row. IsRow row.terms row.constant) }
 {}
 
 /// A row is its own normal form: the row of its form is the row itself.
@@ -27,17 +29,20 @@ pub fn rows_are_their_own_normal_form()
 
 /// What the factors are divided by divides each of them, and each number that divides them all divides it.
 pub fn divisor_is_greatest()
-    ensures { (ts : List Term) → DividesEach (common_divisor_of ts) ts × ((d : ℕ) → ts ≢ [] → DividesEach d ts → d ∣ common_divisor_of ts) }
+    ensures { (ts : List Term) → DividesEach (common_divisor_of ts) ts
+        × ((d : ℕ) → ts ≢ [] → DividesEach d ts → d ∣ common_divisor_of ts) }
 {}
 
 /// A combination holds of exactly the integer valuations of which the weighted sum of its two rows holds.
 pub fn combination_is_the_weighted_sum()
-    ensures { (v : Valuation) (row other : Inequality) (a b : ℕ) → IfSome (combined row a other b) (IsCombinationAt v row a other b) }
+    ensures { (v : Valuation) (row other : Inequality) (a b : ℕ) →
+        IfSome (combined row a other b) (IsCombinationAt v row a other b) }
 {}
 
 /// A combination holds wherever both its rows hold.
 pub fn combination_holds()
-    ensures { (v : Valuation) (row other : Inequality) (a b : ℕ) → Holds v row → Holds v other → IfSome (combined row a other b) (Holds v) }
+    ensures { (v : Valuation) (row other : Inequality) (a b : ℕ) → Holds v row → Holds v other →
+        IfSome (combined row a other b) (Holds v) }
 {}
 
 /// Substitution commutes with evaluation: the row with a form in place of a variable holds where the row

@@ -1,5 +1,4 @@
-ghost use Rattle.std.specs.Prelude.{◌≡◌, ◌≤ℤ◌, ◌↔◌, ℤ, pos, neg_ℤ, ◌+ℤ◌, ◌*ℤ◌, IfOk, IfSome, option_and_then};
-ghost use Rattle.linear_rows.specs.Rows.{Valuation, sum_at, Holds, changed};
+ghost use Rattle.std.specs.Prelude.{◌≡◌, neg_ℤ, IfOk, IfSome, option_and_then};
 
 use crate::forms::Form;
 use crate::terms::Terms;
@@ -66,10 +65,11 @@ impl Model for Row {
 
 impl Row {
     ghost use Rattle.linear_rows.specs.Terms.{IsAscending, IsCollected};
-    ghost use Rattle.linear_rows.specs.Forms.{value_at, weighted_within};
+    ghost use Rattle.linear_rows.specs.Forms.{weighted_within};
     ghost use Rattle.linear_rows.specs.NormalForm.{row_of, IsRow};
     ghost use Rattle.linear_rows.specs.Steps.{signed};
-    ghost use Rattle.linear_rows.specs.Combinations.{combined, substituted, IsCombination};
+    ghost use Rattle.linear_rows.specs.Combinations.{combined, substituted};
+    ghost use Rattle.linear_rows.specs.Combinations.{IsRowOf, IsCombination, FollowsFrom, IsSubstitution};
 
     /// The row that says that a form is at most 0: divided by the common divisor of the factors, with the
     /// constant rounded down. A form without terms isn't divided.
@@ -79,7 +79,7 @@ impl Row {
     pub fn make(alloc: Global, form: &Form) -> Result<Option<Row>, AllocError>
         requires { IsCollected form.now.terms }
         ensures exact { IfOk result (λ row. row ≡ row_of form.now) }
-        ensures holds { IfOk result (λ row. IfSome row (λ r. (v : Valuation) → Holds v r ↔ (value_at v form.now ≤ℤ pos 0))) }
+        ensures holds { IfOk result (λ row. IfSome row (IsRowOf form.now)) }
     {
         Row::lowest(alloc, form.terms.as_slice(), form.constant)
     }
@@ -98,7 +98,7 @@ impl Row {
     ) -> Result<Option<Row>, AllocError>
         ensures exact { IfOk result (λ row. row ≡ combined self.now mine other.now theirs) }
         ensures holds { IfOk result (λ row. IfSome row (IsCombination self.now mine other.now theirs)) }
-        ensures sound { IfOk result (λ row. IfSome row (λ r. (v : Valuation) → Holds v self.now → Holds v other.now → Holds v r)) }
+        ensures sound { IfOk result (λ row. IfSome row (FollowsFrom self.now other.now)) }
     {
         let first = self.terms.as_slice();
         let second = other.terms.as_slice();
@@ -125,7 +125,7 @@ impl Row {
     ) -> Result<Option<Row>, AllocError>
         requires { IsCollected form.now.terms }
         ensures exact { IfOk result (λ row. row ≡ substituted self.now var form.now) }
-        ensures holds { IfOk result (λ row. IfSome row (λ r. (v : Valuation) → Holds v r ↔ Holds (changed v var (value_at v form.now)) self.now)) }
+        ensures holds { IfOk result (λ row. IfSome row (IsSubstitution self.now var form.now)) }
     {
         let terms = self.terms.as_slice();
         let factor = weighing::factor(terms, &var);
