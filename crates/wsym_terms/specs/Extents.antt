@@ -39,3 +39,9 @@ total (e ∷ es) = plus e (total es)
 abbrev pub IsWithin : ℕ → Extent → Type 0
 IsWithin c (Finite a) = c ≤ a
 IsWithin c Infinite = Unit {0}
+
+-- order: infinity is above each number
+abbrev pub IsAtMost : Extent → Extent → Type 0
+IsAtMost a Infinite = Unit {0}
+IsAtMost (Finite a) (Finite b) = a ≤ b
+IsAtMost Infinite (Finite b) = ⊥

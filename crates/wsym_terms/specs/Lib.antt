@@ -1,4 +1,5 @@
 pub mod Bounds
+pub mod Costs
 pub mod Extents
 pub mod LineUses
 pub mod Trees
