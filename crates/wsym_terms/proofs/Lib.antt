@@ -1,2 +1,3 @@
+pub mod CostLaws
 pub mod ExtentLaws
 pub mod SplitLaws
