@@ -1,5 +1,6 @@
 ghost use Rattle.std.specs.Prelude.{◌≡◌};
-ghost use Rattle.cost_multiset.specs.CostLists.{IsDescending};
+ghost use Rattle.cost_multiset.specs.CostLists.{IsDescending, prefix_sum};
+ghost use Rattle.wsym_terms.specs.Costs.{cost_of};
 
 use sqlite_items::Items;
 use std::marker::Model;
@@ -56,5 +57,23 @@ impl Multi {
         ensures { result ≡ self.now.tail }
     {
         self.tail
+    }
+
+    /// The sum of the first `n` costs of the list; finite sums of 2^127 or more are Beyond. It takes no
+    /// memory.
+    #[tactic(auto, using(crate::proofs::SumLaws::sum_begins, crate::proofs::SumLaws::sum_goes_on, crate::proofs::SumLaws::sum_ends))]
+    pub fn prefix(&self, n: u64) -> Cost
+        ensures { result ≡ cost_of (prefix_sum self.now n) }
+    {
+        let mut sum = Cost::Fin(0);
+        let mut left = n;
+        for run in self.runs.as_slice() {
+            if left <= run.count {
+                return sum.plus(run.value.times(u128::from(left)));
+            }
+            sum = sum.plus(run.value.times(u128::from(run.count)));
+            left -= run.count;
+        }
+        sum.plus(self.tail.times(u128::from(left)))
     }
 }
