@@ -1,2 +1,3 @@
+pub mod GrowingLaws
 pub mod PlaceLaws
 pub mod SumLaws

@@ -52,11 +52,11 @@ followed_join v a b p k = by_tests (nat_lt k a) (nat_lt (k - a) b) (nat_lt k (a 
 abbrev pub IsFalling : (ℕ → Cost) → Type 0
 IsFalling f = (k : ℕ) → is_less (f k) (f (suc k)) ≡ false
 
-and_left : (a b : Bool) → (a && b) ≡ true → a ≡ true
+pub and_left : (a b : Bool) → (a && b) ≡ true → a ≡ true
 and_left true b h = refl
 and_left false b h = absurd (cc)
 
-and_right : (a b : Bool) → (a && b) ≡ true → b ≡ true
+pub and_right : (a b : Bool) → (a && b) ≡ true → b ≡ true
 and_right true b h = h
 and_right false b h = absurd (cc)
 

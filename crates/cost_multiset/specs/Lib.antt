@@ -1,1 +1,2 @@
 pub mod CostLists
+pub mod Parts

@@ -5,5 +5,6 @@
 #![tactic(auto)]
 
 mod costs;
+mod growing;
 
 pub use costs::{Multi, Run};
