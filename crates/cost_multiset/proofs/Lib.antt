@@ -1,3 +1,4 @@
+pub mod EndLaws
 pub mod GrowingLaws
 pub mod PlaceLaws
 pub mod SumLaws

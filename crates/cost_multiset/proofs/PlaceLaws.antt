@@ -7,6 +7,7 @@ use Rattle.wsym_terms.specs.declared.costs.Cost.{Cost}
 use Rattle.wsym_terms.proofs.CostLaws.{less_self, less_antisym, less_one_way}
 use Rattle.cost_multiset.specs.declared.costs.Run.{Run}
 use Rattle.cost_multiset.specs.CostLists.{CostList, next_value, descends, places, followed, place}
+use Rattle.cost_multiset.specs.Parts.{IsFalling}
 
 abbrev pub run : Cost → ℕ → Run
 run value count = record { value = value; count = count }
@@ -47,10 +48,6 @@ followed_join v a b p k = by_tests (nat_lt k a) (nat_lt (k - a) b) (nat_lt k (a 
     by_tests false true false d e f = absurd (grind (arith, nat_tests))
     by_tests false false true d e f = absurd (grind (arith, nat_tests))
     by_tests false false false d e f = let same : k - a - b ≡ k - (a + b) = omega arith in ap p same
-
--- the places of an endless list fall
-abbrev pub IsFalling : (ℕ → Cost) → Type 0
-IsFalling f = (k : ℕ) → is_less (f k) (f (suc k)) ≡ false
 
 pub and_left : (a b : Bool) → (a && b) ≡ true → a ≡ true
 and_left true b h = refl

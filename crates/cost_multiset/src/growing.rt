@@ -1,9 +1,9 @@
-ghost use Rattle.std.specs.Prelude.{◌≡◌, ℕ, ◌+◌, ◌^◌, ◌<◌, ◌≤◌, ◌↔◌, [], true, IsTrue, OnOk};
+ghost use Rattle.std.specs.Prelude.{◌≡◌, ℕ, ◌+◌, ◌^◌, ◌<◌, ◌≤◌, ◌↔◌, [], true, IfOk, IsTrue, OnOk};
 ghost use Rattle.wsym_terms.specs.Costs.{is_in_range};
-ghost use Rattle.cost_multiset.specs.CostLists.{places};
-ghost use Rattle.cost_multiset.specs.Parts.{Extends};
+ghost use Rattle.cost_multiset.specs.CostLists.{followed, place, places};
+ghost use Rattle.cost_multiset.specs.Parts.{EndsIn, Extends, IsFalling};
 
-use crate::costs::Run;
+use crate::costs::{Multi, Run};
 use sqlite_items::Items;
 use std::alloc::{AllocError, Global};
 use std::marker::Model;
@@ -56,6 +56,34 @@ impl Growing {
                 self.runs.push(Run { value, count })
             }
             None => self.runs.push(Run { value, count }),
+        }
+    }
+
+    /// The list of these runs with this tail.
+    pub(crate) fn end(self, tail: Cost) -> Result<Multi, AllocError>
+        requires in_range { is_in_range tail ≡ true }
+        requires falling { IsFalling (followed self (λ _. tail)) }
+        requires room { places self < 2 ^ 63 }
+        ensures { IfOk result (λ costs. (k : ℕ) → place costs k ≡ followed self (λ _. tail) k) }
+    {
+        let runs = self.cut(tail)?;
+        Ok(Multi::of(runs, tail))
+    }
+
+    /// The runs without a last one that costs the same as the tail.
+    fn cut(self, tail: Cost) -> Result<Items<Run>, AllocError>
+        requires in_range { is_in_range tail ≡ true }
+        requires falling { IsFalling (followed self (λ _. tail)) }
+        ensures { IfOk result (λ runs. EndsIn self runs tail) }
+    {
+        let Growing { mut runs } = self;
+        match runs.pop() {
+            Some(last) if is_same(last.value, tail) => Ok(runs),
+            Some(last) => {
+                runs.push(last)?;
+                Ok(runs)
+            }
+            None => Ok(runs),
         }
     }
 }

@@ -6,5 +6,6 @@
 
 mod costs;
 mod growing;
+mod rest;
 
 pub use costs::{Multi, Run};
