@@ -1,4 +1,5 @@
 pub mod EndLaws
 pub mod GrowingLaws
+pub mod JoinLaws
 pub mod PlaceLaws
 pub mod SumLaws

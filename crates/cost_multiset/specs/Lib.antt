@@ -1,2 +1,3 @@
 pub mod CostLists
+pub mod Joins
 pub mod Parts

@@ -1,8 +1,12 @@
-ghost use Rattle.std.specs.Prelude.{◌≡◌};
-ghost use Rattle.cost_multiset.specs.CostLists.{IsDescending, prefix_sum};
-ghost use Rattle.wsym_terms.specs.Costs.{cost_of};
+ghost use Rattle.std.specs.Prelude.{◌≡◌, ℕ, ◌+◌, ◌^◌, ◌<◌, IfOk};
+ghost use Rattle.cost_multiset.specs.CostLists.{IsDescending, place, places, prefix_sum};
+ghost use Rattle.wsym_terms.specs.Costs.{cost_of, sum_of};
 
+use crate::growing::Growing;
+use crate::joins::next_sum;
+use crate::rest::Rest;
 use sqlite_items::Items;
+use std::alloc::{AllocError, Global};
 use std::marker::Model;
 use wsym_terms::Cost;
 
@@ -75,5 +79,20 @@ impl Multi {
             left -= run.count;
         }
         sum.plus(self.tail.times(u128::from(left)))
+    }
+
+    /// The sums of two lists, place by place; finite sums of 2^127 or more are Beyond.
+    pub fn plus(&self, alloc: Global, other: &Multi) -> Result<Multi, AllocError>
+        requires { places self.now.runs + places other.now.runs < 2 ^ 63 }
+        ensures { IfOk result (λ costs. (k : ℕ) → place costs k ≡ sum_of (place self.now k) (place other.now k)) }
+    {
+        let tail = self.tail.plus(other.tail);
+        let mut sums = Growing::new(alloc);
+        let mut left = Rest::of(self);
+        let mut right = Rest::of(other);
+        while let Some(run) = next_sum(&mut left, &mut right) {
+            sums.push(run.value, run.count)?;
+        }
+        sums.end(tail)
     }
 }

@@ -6,6 +6,7 @@
 
 mod costs;
 mod growing;
+mod joins;
 mod rest;
 
 pub use costs::{Multi, Run};
