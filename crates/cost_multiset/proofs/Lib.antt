@@ -1,5 +1,6 @@
 pub mod EndLaws
 pub mod GrowingLaws
 pub mod JoinLaws
+pub mod MergeLaws
 pub mod PlaceLaws
 pub mod SumLaws

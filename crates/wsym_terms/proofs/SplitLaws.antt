@@ -27,3 +27,19 @@ best_at_most f g zero n top h =
     subst (λ (m : ℕ). IsAtMost (plus (f zero) (g m)) top) r (h zero (omega arith))
 best_at_most f g (suc k) n top h =
     greater_at_most (plus (f (suc k)) (g (n - suc k))) (best f g k n) top (h (suc k) (omega arith)) (best_at_most f g k n top (λ i le. h i (omega arith)))
+
+plus_greater : (e a b : Extent) → plus e (greater a b) ≡ greater (plus e a) (plus e b)
+plus_greater Infinite a b = refl
+plus_greater (Finite e) Infinite b = refl
+plus_greater (Finite e) (Finite a) Infinite = refl
+plus_greater (Finite e) (Finite a) (Finite b) = ap Finite (omega arith)
+
+-- the same of a number added to the greatest sum
+pub plus_best_at_most : (e : Extent) (f g : ℕ → Extent) (k n : ℕ) (top : Extent) → ((i : ℕ) → i ≤ k → IsAtMost (plus e (plus (f i) (g (n - i)))) top) → IsAtMost (plus e (best f g k n)) top
+plus_best_at_most e f g zero n top h =
+    let r : n - zero ≡ n = omega arith in
+    subst (λ (m : ℕ). IsAtMost (plus e (plus (f zero) (g m))) top) r (h zero (omega arith))
+plus_best_at_most e f g (suc k) n top h =
+    let last = plus (f (suc k)) (g (n - suc k)) in
+    subst (λ (x : Extent). IsAtMost x top) (sym (plus_greater e last (best f g k n)))
+    (greater_at_most (plus e last) (plus e (best f g k n)) top (h (suc k) (omega arith)) (plus_best_at_most e f g k n top (λ i le. h i (omega arith))))
