@@ -1,3 +1,4 @@
+pub mod BestLaws
 pub mod EndLaws
 pub mod GrowingLaws
 pub mod JoinLaws

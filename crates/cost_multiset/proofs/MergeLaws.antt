@@ -30,16 +30,16 @@ first_of_run : (v : Cost) (count : ℕ) (f : ℕ → Cost) → followed (run v (
 first_of_run v count f = followed_in (run v (suc count)) [] f 0 (omega arith)
 
 -- the step of the union at its second place and behind
-merged_left : (f g : ℕ → Cost) (k : ℕ) → is_less (f 0) (g 0) ≡ false → merged f g (suc k) ≡ merged (λ i. f (suc i)) g k
+pub merged_left : (f g : ℕ → Cost) (k : ℕ) → is_less (f 0) (g 0) ≡ false → merged f g (suc k) ≡ merged (λ i. f (suc i)) g k
 merged_left f g k h = if_false (is_less (f 0) (g 0)) (merged f (λ i. g (suc i)) k) (merged (λ i. f (suc i)) g k) h
 
-merged_right : (f g : ℕ → Cost) (k : ℕ) → is_less (f 0) (g 0) ≡ true → merged f g (suc k) ≡ merged f (λ i. g (suc i)) k
+pub merged_right : (f g : ℕ → Cost) (k : ℕ) → is_less (f 0) (g 0) ≡ true → merged f g (suc k) ≡ merged f (λ i. g (suc i)) k
 merged_right f g k h = if_true (is_less (f 0) (g 0)) (merged f (λ i. g (suc i)) k) (merged (λ i. f (suc i)) g k) h
 
-merged_left_first : (f g : ℕ → Cost) → is_less (f 0) (g 0) ≡ false → merged f g 0 ≡ f 0
+pub merged_left_first : (f g : ℕ → Cost) → is_less (f 0) (g 0) ≡ false → merged f g 0 ≡ f 0
 merged_left_first f g h = if_false (is_less (f 0) (g 0)) (g 0) (f 0) h
 
-merged_right_first : (f g : ℕ → Cost) → is_less (f 0) (g 0) ≡ true → merged f g 0 ≡ g 0
+pub merged_right_first : (f g : ℕ → Cost) → is_less (f 0) (g 0) ≡ true → merged f g 0 ≡ g 0
 merged_right_first f g h = if_true (is_less (f 0) (g 0)) (g 0) (f 0) h
 
 merged_same : (f g p q : ℕ → Cost) → ((k : ℕ) → f k ≡ p k) → ((k : ℕ) → g k ≡ q k) → (k : ℕ) → merged f g k ≡ merged p q k

@@ -1,9 +1,10 @@
 ghost use Rattle.std.specs.Prelude.{◌≡◌, ℕ, ◌+◌, ◌^◌, ◌<◌, IfOk};
-ghost use Rattle.cost_multiset.specs.CostLists.{IsDescending, place, places, prefix_sum};
+ghost use Rattle.cost_multiset.specs.CostLists.{IsDescending, merged, place, places, prefix_sum};
 ghost use Rattle.wsym_terms.specs.Costs.{cost_of, sum_of};
+ghost use Rattle.wsym_terms.specs.Trees.{best};
 
 use crate::growing::Growing;
-use crate::joins::next_sum;
+use crate::joins::{next_greatest, next_sum};
 use crate::rest::Rest;
 use sqlite_items::Items;
 use std::alloc::{AllocError, Global};
@@ -94,5 +95,22 @@ impl Multi {
             sums.push(run.value, run.count)?;
         }
         sums.end(tail)
+    }
+
+    /// The descending union of two lists: the greater of the two costs that come next, again and again. Its
+    /// first n costs cost as much as the dearest way to take n costs from the fronts of the two.
+    pub fn merge(&self, alloc: Global, other: &Multi) -> Result<Multi, AllocError>
+        requires { places self.now.runs + places other.now.runs < 2 ^ 63 }
+        ensures places { IfOk result (λ costs. (k : ℕ) → place costs k ≡ merged (place self.now) (place other.now) k) }
+        ensures splits { IfOk result (λ costs. (n : ℕ) → prefix_sum costs n ≡ best (prefix_sum self.now) (prefix_sum other.now) n n) }
+    {
+        let tail = self.tail.larger(other.tail);
+        let mut union = Growing::new(alloc);
+        let mut left = Rest::of(self);
+        let mut right = Rest::of(other);
+        while let Some(run) = next_greatest(&mut left, &mut right) {
+            union.push(run.value, run.count)?;
+        }
+        union.end(tail)
     }
 }
