@@ -1,14 +1,13 @@
 -- Runs that end with a tail.
-use Rattle.std.proofs.Common.{◌≡◌, ℕ, zero, suc, ◌+◌, ◌-◌, ◌*◌, ◌^◌, ◌≤◌, ◌<◌, Bool, true, false, ◌&&◌, ◌||◌, if◌then◌else◌, nat_lt, nat_le, List, [], ◌∷◌, ◌++◌, refl, sym, ap, subst, ◌∙◌, arith, append_assoc}
+use Rattle.std.proofs.Common.{◌≡◌, ℕ, suc, ◌+◌, ◌-◌, ◌≤◌, Bool, true, false, ◌||◌, if◌then◌else◌, nat_lt, List, [], ◌∷◌, ◌++◌, refl, sym, ap, subst, ◌∙◌, arith, append_assoc}
 use Rattle.std.proofs.lemmas.Bool.Decides.{nat_tests}
 use Rattle.wsym_terms.specs.Costs.{is_in_range, is_less}
 use Rattle.wsym_terms.specs.declared.costs.Cost.{Cost}
-use Rattle.wsym_terms.proofs.CostLaws.{less_self}
 use Rattle.cost_multiset.specs.declared.costs.Run.{Run}
-use Rattle.cost_multiset.specs.CostLists.{CostList, next_value, descends, places, followed, place}
+use Rattle.cost_multiset.specs.CostLists.{next_value, descends, followed}
 use Rattle.cost_multiset.specs.Parts.{differs, varies, EndsIn, IsFalling}
-use Rattle.cost_multiset.proofs.PlaceLaws.{run, followed_in, followed_behind, followed_append, followed_same, Known, known_back}
-use Rattle.cost_multiset.proofs.GrowingLaws.{Varied, varied, varies_front, varies_more, places_last, unequal}
+use Rattle.cost_multiset.proofs.PlaceLaws.{run, followed_in, followed_behind, followed_append, followed_same, known_back}
+use Rattle.cost_multiset.proofs.GrowingLaws.{varied, varies_more, places_last, unequal}
 
 -- the place behind some runs is that of the next one, or the tail
 first_varied : (runs : List Run) (tail : Cost) (count : ℕ) → varies (runs ++ run tail count ∷ []) ≡ true → followed runs (λ _. tail) 0 ≡ next_value runs tail
@@ -37,18 +36,18 @@ strict (r ∷ runs) tail count v falls =
     let gone : suc last - r.count ≡ 0 = omega arith in
     let next : all (suc last) ≡ next_value runs tail = followed_behind r runs (λ _. tail) (suc last) (omega arith) ∙ ap (followed runs (λ _. tail)) gone ∙ first_varied runs tail count was.rest in
     let down : is_less r.value (next_value runs tail) ≡ false =
-        subst (λ (c : Cost). is_less r.value c ≡ false) next (subst (λ (c : Cost). is_less c (all (suc last)) ≡ false) here (falls last)) in
+    subst (λ (c : Cost). is_less r.value c ≡ false) next (subst (λ (c : Cost). is_less c (all (suc last)) ≡ false) here (falls last)) in
     let rest : IsFalling (followed runs (λ _. tail)) = λ k.
-        let at : r.count + k - r.count ≡ k = omega arith in
-        let at_next : suc (r.count + k) - r.count ≡ suc k = omega arith in
-        let one : all (r.count + k) ≡ followed runs (λ _. tail) k = followed_behind r runs (λ _. tail) (r.count + k) (omega arith) ∙ ap (followed runs (λ _. tail)) at in
-        let two : all (suc (r.count + k)) ≡ followed runs (λ _. tail) (suc k) = followed_behind r runs (λ _. tail) (suc (r.count + k)) (omega arith) ∙ ap (followed runs (λ _. tail)) at_next in
-        subst (λ (c : Cost). is_less (followed runs (λ _. tail) k) c ≡ false) two (subst (λ (c : Cost). is_less c (all (suc (r.count + k))) ≡ false) one (falls (r.count + k))) in
+    let at : r.count + k - r.count ≡ k = omega arith in
+    let at_next : suc (r.count + k) - r.count ≡ suc k = omega arith in
+    let one : all (r.count + k) ≡ followed runs (λ _. tail) k = followed_behind r runs (λ _. tail) (r.count + k) (omega arith) ∙ ap (followed runs (λ _. tail)) at in
+    let two : all (suc (r.count + k)) ≡ followed runs (λ _. tail) (suc k) = followed_behind r runs (λ _. tail) (suc (r.count + k)) (omega arith) ∙ ap (followed runs (λ _. tail)) at_next in
+    subst (λ (c : Cost). is_less (followed runs (λ _. tail) k) c ≡ false) two (subst (λ (c : Cost). is_less c (all (suc (r.count + k))) ≡ false) one (falls (r.count + k))) in
     known_back r runs tail (record {
-        counted = counted;
-        in_range = was.in_range;
-        above = or_right (is_less r.value (next_value runs tail)) (is_less (next_value runs tail) r.value) (next_differs r.value runs tail count was.differs) down;
-        rest = strict runs tail count was.rest rest;
+      counted = counted;
+      in_range = was.in_range;
+      above = or_right (is_less r.value (next_value runs tail)) (is_less (next_value runs tail) r.value) (next_differs r.value runs tail count was.differs) down;
+      rest = strict runs tail count was.rest rest;
     })
 
 -- a last run of the tail's value is part of the tail
@@ -78,7 +77,7 @@ ends_after old new front last tail e f other v range falls =
     let was : varies (front ++ last ∷ []) ≡ true = subst (λ (runs : List Run). varies runs ≡ true) e v in
     let with_tail : varies (front ++ last ∷ run tail 1 ∷ []) ≡ true = varies_more front last (run tail 1) was (omega arith) range (unequal last.value (run tail 1) other) in
     let with_tail' : varies (old ++ run tail 1 ∷ []) ≡ true =
-        subst (λ (runs : List Run). varies (runs ++ run tail 1 ∷ []) ≡ true) (sym e) (subst (λ (runs : List Run). varies runs ≡ true) (sym (append_assoc front (last ∷ []) (run tail 1 ∷ []))) with_tail) in
+    subst (λ (runs : List Run). varies (runs ++ run tail 1 ∷ []) ≡ true) (sym e) (subst (λ (runs : List Run). varies runs ≡ true) (sym (append_assoc front (last ∷ []) (run tail 1 ∷ []))) with_tail) in
     subst (λ (runs : List Run). EndsIn old runs tail) (sym same) (record { descending = strict old tail 1 with_tail' falls; places = omega arith; same = λ k. refl })
 
 pub ends_empty : (old new : List Run) (tail : Cost) → old ≡ [] → new ≡ [] → is_in_range tail ≡ true → EndsIn old new tail

@@ -1,11 +1,11 @@
 -- Runs put behind others.
-use Rattle.std.proofs.Common.{◌≡◌, ℕ, zero, suc, ◌+◌, ◌-◌, ◌*◌, ◌^◌, ◌≤◌, ◌<◌, ◌⊎◌, inl, inr, Bool, true, false, IsTrue, ◌&&◌, ◌||◌, T, if◌then◌else◌, nat_lt, nat_le, List, [], ◌∷◌, ◌++◌, refl, sym, ap, subst, ◌∙◌, arith, append_assoc, Result, Ok, Err, OnOk, OnErr}
+use Rattle.std.proofs.Common.{◌≡◌, ℕ, ◌+◌, ◌≤◌, Bool, true, false, ◌&&◌, ◌||◌, nat_le, List, [], ◌∷◌, ◌++◌, refl, sym, ap, subst, ◌∙◌, arith, Result, Ok, Err, OnOk, OnErr}
 use Rattle.std.proofs.lemmas.Bool.Decides.{nat_tests}
 use Rattle.wsym_terms.specs.Costs.{is_in_range, is_less}
 use Rattle.wsym_terms.specs.declared.costs.Cost.{Cost}
-use Rattle.wsym_terms.proofs.CostLaws.{less_self, less_antisym, less_one_way}
+use Rattle.wsym_terms.proofs.CostLaws.{less_antisym}
 use Rattle.cost_multiset.specs.declared.costs.Run.{Run}
-use Rattle.cost_multiset.specs.CostLists.{CostList, next_value, descends, places, followed, place}
+use Rattle.cost_multiset.specs.CostLists.{places, followed}
 use Rattle.cost_multiset.specs.Parts.{differs, varies, Extends}
 use Rattle.cost_multiset.proofs.PlaceLaws.{run, and_left, and_right, followed_append, followed_same, followed_join, places_append}
 
@@ -85,8 +85,8 @@ unequal a next other = by_tests (is_less a next.value) (is_less next.value a) re
 
 pub extends_more : (old new : List Run) (value : Cost) (count : ℕ) → new ≡ old ++ run value count ∷ [] → Extends old new value count
 extends_more old new value count e = record {
-    places = ap places e ∙ places_append old (run value count ∷ []) ∙ omega arith;
-    follows = λ behind k. ap (λ (runs : List Run). followed runs behind k) e ∙ followed_append old (run value count ∷ []) behind k;
+  places = ap places e ∙ places_append old (run value count ∷ []) ∙ omega arith;
+  follows = λ behind k. ap (λ (runs : List Run). followed runs behind k) e ∙ followed_append old (run value count ∷ []) behind k;
 }
 
 pub extends_last : (old new front : List Run) (last : Run) (value : Cost) (count : ℕ) → old ≡ front ++ last ∷ [] → last.value ≡ value
@@ -97,9 +97,9 @@ extends_last old new front last value count was same e =
     record {
       places = ap places e ∙ places_append front (run value (last.count + count) ∷ []) ∙ omega (arith, places_last old front last was);
       follows = λ behind k.
-        ap (λ (runs : List Run). followed runs behind k) e ∙ followed_append front (run value (last.count + count) ∷ []) behind k
-        ∙ followed_same front (followed (run value (last.count + count) ∷ []) behind) (followed (run value last.count ∷ run value count ∷ []) behind) (λ j. sym (followed_join value last.count count behind j)) k
-        ∙ sym (ap (λ (runs : List Run). followed runs (followed (run value count ∷ []) behind) k) was' ∙ followed_append front (run value last.count ∷ []) (followed (run value count ∷ []) behind) k);
+          ap (λ (runs : List Run). followed runs behind k) e ∙ followed_append front (run value (last.count + count) ∷ []) behind k
+          ∙ followed_same front (followed (run value (last.count + count) ∷ []) behind) (followed (run value last.count ∷ run value count ∷ []) behind) (λ j. sym (followed_join value last.count count behind j)) k
+          ∙ sym (ap (λ (runs : List Run). followed runs (followed (run value count ∷ []) behind) k) was' ∙ followed_append front (run value last.count ∷ []) (followed (run value count ∷ []) behind) k);
     }
 
 -- runs after a push that may have been refused

@@ -1,17 +1,17 @@
 -- Two descending lists that become one.
-use Rattle.std.proofs.Common.{◌≡◌, ℕ, zero, suc, ◌+◌, ◌-◌, ◌*◌, ◌^◌, ◌≤◌, ◌<◌, min, Bool, true, false, ◌&&◌, ◌||◌, if◌then◌else◌, nat_lt, nat_le, IsTrue, rules, List, [], ◌∷◌, ◌++◌, Option, Some, None, refl, sym, ap, subst, ◌∙◌, arith}
+use Rattle.std.proofs.Common.{◌≡◌, ℕ, suc, ◌+◌, ◌-◌, ◌≤◌, min, Bool, true, false, if◌then◌else◌, nat_lt, IsTrue, rules, List, [], ◌∷◌, Some, None, refl, sym, ap, subst, ◌∙◌, arith}
 use Rattle.std.proofs.lemmas.Bool.Decides.{nat_tests}
-use Rattle.wsym_terms.specs.Extents.{Extent, plus, IsAtMost}
-use Rattle.wsym_terms.specs.Costs.{is_in_range, is_less, sum_of, cost_of, extent_of}
+use Rattle.wsym_terms.specs.Extents.{plus, IsAtMost}
+use Rattle.wsym_terms.specs.Costs.{is_in_range, sum_of, cost_of, extent_of}
 use Rattle.wsym_terms.specs.declared.costs.Cost.{Cost}
-use Rattle.wsym_terms.proofs.CostLaws.{less_self, cost_in_range, not_less, at_most_of, clip_keeps}
+use Rattle.wsym_terms.proofs.CostLaws.{cost_in_range, not_less, at_most_of, clip_keeps}
 use Rattle.wsym_terms.proofs.ExtentLaws.{plus_at_most}
 use Rattle.cost_multiset.specs.declared.costs.Run.{Run}
 use Rattle.cost_multiset.specs.CostLists.{CostList, next_value, descends, places, followed, place}
 use Rattle.cost_multiset.specs.Parts.{IsFalling, first_count, without_first, lesser_count, Extends}
 use Rattle.cost_multiset.specs.Joins.{sums, TakesRun, IsFlat, IsJoined}
 use Rattle.cost_multiset.proofs.EndLaws.{falling_same}
-use Rattle.cost_multiset.proofs.PlaceLaws.{run, if_true, if_false, followed_in, followed_behind, followed_append, followed_same, Known, known, known_back}
+use Rattle.cost_multiset.proofs.PlaceLaws.{run, if_true, if_false, followed_same, known, known_back}
 
 -- a count within the first run, where there is one
 abbrev pub IsWithin : ℕ → List Run → Type 0
@@ -107,17 +107,17 @@ takes_sum a b c d r count h k e is left_is right_is =
     let left : CostList = record { runs = without_first count a.runs; tail = a.tail } in
     let right : CostList = record { runs = without_first count b.runs; tail = b.tail } in
     let taken : TakesRun sums a b (run (sum_of v w) count) left right = record {
-        counted = s.counted;
-        in_range = cost_in_range (plus (extent_of v) (extent_of w));
-        left_descends = descends_without a.runs a.tail count h;
-        right_descends = descends_without b.runs b.tail count k;
-        left_tail = refl;
-        right_tail = refl;
-        places = s.used;
-        joined = λ j.
-            ap (λ (x : Cost). sum_of x (place b j)) (place_without a.runs a.tail count s.left j)
-            ∙ ap (λ (x : Cost). sum_of (followed (run v count ∷ []) (place left) j) x) (place_without b.runs b.tail count s.right j)
-            ∙ sums_of_runs v w count (place left) (place right) j;
+      counted = s.counted;
+      in_range = cost_in_range (plus (extent_of v) (extent_of w));
+      left_descends = descends_without a.runs a.tail count h;
+      right_descends = descends_without b.runs b.tail count k;
+      left_tail = refl;
+      right_tail = refl;
+      places = s.used;
+      joined = λ j.
+          ap (λ (x : Cost). sum_of x (place b j)) (place_without a.runs a.tail count s.left j)
+          ∙ ap (λ (x : Cost). sum_of (followed (run v count ∷ []) (place left) j) x) (place_without b.runs b.tail count s.right j)
+          ∙ sums_of_runs v w count (place left) (place right) j;
     } in
     subst (λ (x : Run). TakesRun sums a b x c d) (sym is) (subst (λ (x : CostList). TakesRun sums a b (run (sum_of v w) count) x d) (sym left_is) (subst (λ (x : CostList). TakesRun sums a b (run (sum_of v w) count) left x) (sym right_is) taken))
 
@@ -130,15 +130,15 @@ joined_at_start join runs left right a b e f g h k =
 pub joined_step : (join : (ℕ → Cost) → (ℕ → Cost) → ℕ → Cost) (runs more : List Run) (left right left' right' a b : CostList) (r : Run) → IsJoined join runs left right a b → TakesRun join left right r left' right'
     → Extends runs more r.value r.count → IsJoined join more left' right' a b
 joined_step join runs more left right left' right' a b r was step longer = record {
-    left_descends = step.left_descends;
-    right_descends = step.right_descends;
-    left_tail = step.left_tail ∙ was.left_tail;
-    right_tail = step.right_tail ∙ was.right_tail;
-    places = omega (arith, was.places, step.places, longer.places);
-    joined = λ k.
-        longer.follows (join (place left') (place right')) k
-        ∙ followed_same runs (followed (r ∷ []) (join (place left') (place right'))) (join (place left) (place right)) (λ j. sym (step.joined j)) k
-        ∙ was.joined k;
+  left_descends = step.left_descends;
+  right_descends = step.right_descends;
+  left_tail = step.left_tail ∙ was.left_tail;
+  right_tail = step.right_tail ∙ was.right_tail;
+  places = omega (arith, was.places, step.places, longer.places);
+  joined = λ k.
+      longer.follows (join (place left') (place right')) k
+      ∙ followed_same runs (followed (r ∷ []) (join (place left') (place right'))) (join (place left) (place right)) (λ j. sym (step.joined j)) k
+      ∙ was.joined k;
 }
 
 pub joined_at_end : (join : (ℕ → Cost) → (ℕ → Cost) → ℕ → Cost) (runs : List Run) (left right a b : CostList) (cost : Cost) → IsJoined join runs left right a b → IsFlat join left right cost → (k : ℕ)

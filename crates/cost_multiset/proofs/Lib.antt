@@ -1,5 +1,6 @@
 pub mod BestLaws
 pub mod EndLaws
+pub mod GroupLaws
 pub mod GrowingLaws
 pub mod JoinLaws
 pub mod MergeLaws

@@ -1,3 +1,4 @@
 pub mod CostLists
+pub mod Groups
 pub mod Joins
 pub mod Parts

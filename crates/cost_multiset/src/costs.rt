@@ -1,8 +1,10 @@
-ghost use Rattle.std.specs.Prelude.{◌≡◌, ℕ, ◌+◌, ◌^◌, ◌<◌, IfOk};
-ghost use Rattle.cost_multiset.specs.CostLists.{IsDescending, merged, place, places, prefix_sum};
+ghost use Rattle.std.specs.Prelude.{◌≡◌, ◌≢◌, ℕ, ◌+◌, ◌^◌, ◌<◌, ◌≤◌, IfOk};
+ghost use Rattle.cost_multiset.specs.CostLists.{IsDescending, grouped, merged, place, places, prefix_sum};
 ghost use Rattle.wsym_terms.specs.Costs.{cost_of, sum_of};
 ghost use Rattle.wsym_terms.specs.Trees.{best};
+ghost use Rattle.wsym_terms.specs.declared.costs.Cost.{Cost as CostValue};
 
+use crate::groups::Groups;
 use crate::growing::Growing;
 use crate::joins::{next_greatest, next_sum};
 use crate::rest::Rest;
@@ -112,5 +114,36 @@ impl Multi {
             union.push(run.value, run.count)?;
         }
         union.end(tail)
+    }
+
+    /// The sums of `by` places each, in order: by 0 all zeros, by Unbounded Unbounded everywhere. Finite sums
+    /// of 2^127 or more are Beyond. It takes time for the runs, and none for the places.
+    pub fn group(&self, alloc: Global, by: Cost) -> Result<Multi, AllocError>
+        requires { by ≢ Cost.Beyond }
+        ensures { IfOk result (λ costs. (k : ℕ) → place costs k ≡ grouped by (place self.now) k) }
+    {
+        match by {
+            Cost::Fin(by) => {
+                if by == 0 {
+                    return Ok(Multi::of(Items::new(alloc), Cost::Fin(0)));
+                }
+                self.group_places(alloc, by)
+            }
+            _ => Ok(Multi::of(Items::new(alloc), Cost::Unbounded)),
+        }
+    }
+
+    /// The sums of so many places each, at least one.
+    fn group_places(&self, alloc: Global, by: u128) -> Result<Multi, AllocError>
+        requires { 1 ≤ by }
+        ensures { IfOk result (λ costs. (k : ℕ) → place costs k ≡ grouped (CostValue.Fin by) (place self.now) k) }
+    {
+        let tail = self.tail;
+        let mut groups = Groups::new(alloc, by);
+        for run in self.runs.as_slice() {
+            groups.add(run.value, run.count)?;
+        }
+        groups.close(tail)?;
+        groups.end(tail.times(by))
     }
 }

@@ -5,6 +5,7 @@
 #![tactic(auto)]
 
 mod costs;
+mod groups;
 mod growing;
 mod joins;
 mod rest;
