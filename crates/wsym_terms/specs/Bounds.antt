@@ -1,7 +1,9 @@
 -- The value of a loop's bound at values of the parameters.
-use Rattle.std.specs.Prelude.{ℕ, ℤ, pos, negsuc, ◌+ℤ◌, ◌*ℤ◌, List, [], ◌∷◌, Option, Some, None, slice_get, unwrap_or}
+use Rattle.std.specs.Prelude.{ℕ, ℤ, pos, negsuc, ◌+ℤ◌, ◌*ℤ◌, ◌≤ℤ◌, ◌≤◌, ◌<◌, ◌^◌, List, [], ◌∷◌, length, All, Option, Some, None, slice_get, unwrap_or, unsigned_abs}
 use Rattle.std.specs.Int.{int_div_euclid}
 use Rattle.wsym_terms.specs.Extents.{Extent, Finite, Infinite, lesser}
+use Rattle.wsym_terms.specs.declared.costs.Cost.{Cost}
+use Rattle.wsym_terms.specs.declared.costs.Cost.TheVariants.{Fin, Unbounded}
 use Rattle.wsym_terms.specs.declared.bounds.Coef.{Coef}
 use Rattle.wsym_terms.specs.declared.bounds.Atom.{Atom}
 use Rattle.wsym_terms.specs.declared.bounds.Bound.{Bound}
@@ -27,3 +29,21 @@ least_atom values (a ∷ atoms) = lesser (Finite (atom_value values a)) (least_a
 
 abbrev pub bound_value : Bound → List ℤ → Extent
 bound_value bound values = least_atom values bound.atoms
+
+-- the same as a cost
+abbrev pub exact_cost : Extent → Cost
+exact_cost (Finite n) = Fin n
+exact_cost Infinite = Unbounded
+
+-- a factor of one of so many parameters, of a magnitude of at most 2 ^ 90
+pub record CoefFits (parameters : ℕ) (coef : Coef) : Type 0 where
+  pub known : coef.param < parameters
+  pub factor : unsigned_abs coef.factor ≤ 2 ^ 90
+
+-- at most 13 parameters, numbers of a magnitude of at most 2 ^ 90, and a divisor of at least 1
+pub record AtomFits (parameters : ℕ) (atom : Atom) : Type 0 where
+  pub few : length atom.coefs ≤ 13
+  pub coefs : All (CoefFits parameters) atom.coefs
+  pub constant : unsigned_abs atom.constant ≤ 2 ^ 90
+  pub positive : pos 1 ≤ℤ atom.divisor
+  pub divisor : unsigned_abs atom.divisor ≤ 2 ^ 90

@@ -1,3 +1,9 @@
+ghost use Rattle.std.specs.Prelude.{◌≡◌, ℕ, ℤ, pos, ◌+◌, ◌*◌, ◌^◌, ◌≤◌, ◌<◌, ◌*ℤ◌, ◌+ℤ◌, ◌≤ℤ◌, All, length, slice_get, unwrap_or, unsigned_abs, true};
+ghost use Rattle.wsym_terms.specs.Bounds.{AtomFits, CoefFits, atom_value, at_least_zero, bound_value, exact_cost, linear_sum};
+ghost use Rattle.wsym_terms.specs.Costs.{is_in_range};
+ghost use Rattle.std.specs.Int.{int_div_euclid};
+
+use crate::costs::Cost;
 use crate::names::Name;
 use sqlite_items::Items;
 
@@ -42,4 +48,71 @@ pub struct Atom {
 pub struct Bound {
     /// The atoms, each an upper bound of its own.
     pub atoms: Items<Atom>,
+}
+
+impl Bound {
+    /// The least value of the atoms, at these values of the parameters in their order; Unbounded without
+    /// atoms. It takes no memory.
+    ///
+    /// Each atom has at most 13 parameters, numbers of a magnitude of at most 2^90 and a divisor of at least 1.
+    pub fn value(&self, values: &[i32]) -> Cost
+        requires { All (AtomFits (length values.now)) self.now.atoms }
+        ensures exact { result ≡ exact_cost (bound_value self.now values.now) }
+        ensures in_range { is_in_range result ≡ true }
+    {
+        let mut least = None;
+        for atom in self.atoms.as_slice() {
+            least = Some(lesser(least, atom.value(values)));
+        }
+        match least {
+            Some(turns) => Cost::Fin(turns),
+            None => Cost::Unbounded,
+        }
+    }
+}
+
+/// The lesser of a number, if there is one yet, and another.
+fn lesser(least: Option<u128>, turns: u128) -> u128 {
+    match least {
+        Some(least) => least.min(turns),
+        None => turns,
+    }
+}
+
+impl Atom {
+    /// `max(0, floor((a·p + b) / d) + 1)`.
+    fn value(&self, values: &[i32]) -> u128
+        requires { AtomFits (length values.now) self.now }
+        ensures exact { result ≡ atom_value values.now self.now }
+        ensures small { result < 2 ^ 127 }
+    {
+        let sum = linear(self.coefs.as_slice(), values) + self.constant;
+        let turns = sum.div_euclid(self.divisor) + 1;
+        if turns < 0 { 0 } else { turns as u128 }
+    }
+}
+
+/// The factors times the values of their parameters, added up.
+fn linear(coefs: &[Coef], values: &[i32]) -> i128
+    requires few { length coefs.now ≤ 13 }
+    requires fit { All (CoefFits (length values.now)) coefs.now }
+    ensures exact { result ≡ linear_sum coefs.now values.now }
+    ensures small { unsigned_abs result ≤ 13 * 2 ^ 121 }
+{
+    let mut sum = 0;
+    for coef in coefs {
+        sum += coef.times(values);
+    }
+    sum
+}
+
+impl Coef {
+    /// The factor times the value of its parameter.
+    fn times(&self, values: &[i32]) -> i128
+        requires { CoefFits (length values.now) self.now }
+        ensures exact { result ≡ self.now.factor *ℤ unwrap_or (slice_get values.now self.now.param) (pos 0) }
+        ensures small { unsigned_abs result ≤ 2 ^ 121 }
+    {
+        self.factor * i128::from(values[self.param as usize])
+    }
 }
