@@ -1,11 +1,11 @@
 -- Costs and the numbers that they stand for: order, sums, and what the limit does to them.
-use Rattle.std.proofs.Common.{◌≡◌, ℕ, zero, suc, ◌+◌, ◌*◌, ◌^◌, ◌≤◌, ◌<◌, Bool, true, false, IsTrue, if◌then◌else◌, nat_lt, refl, sym, ap, subst, ◌∙◌, arith, ltb-true, ltb-false, lt-ltb, le-ltb}
+use Rattle.std.proofs.Common.{◌≡◌, ℕ, ◌+◌, ◌^◌, ◌≤◌, ◌<◌, Bool, true, false, if◌then◌else◌, nat_lt, refl, sym, ap, ◌∙◌, arith}
 use Rattle.std.proofs.lemmas.Bool.Decides.{nat_tests}
-use Rattle.wsym_terms.specs.Extents.{Extent, Finite, Infinite, plus, times, greater, IsAtMost}
-use Rattle.wsym_terms.specs.Costs.{cost_of, extent_of, is_in_range, is_less, sum_of, times_of, larger_of}
+use Rattle.wsym_terms.specs.Extents.{Extent, Finite, Infinite, plus, IsAtMost}
+use Rattle.wsym_terms.specs.Costs.{cost_of, extent_of, is_in_range, is_less}
 use Rattle.wsym_terms.specs.declared.costs.Cost.{Cost}
 use Rattle.wsym_terms.specs.declared.costs.Cost.TheVariants.{Fin, Beyond, Unbounded}
-use Rattle.wsym_terms.proofs.ExtentLaws.{plus_assoc, plus_comm}
+use Rattle.wsym_terms.proofs.ExtentLaws.{plus_comm}
 
 pub cost_below : (n : ℕ) → n < 2 ^ 127 → cost_of (Finite n) ≡ Fin n
 cost_below n h = grind (arith, nat_tests)

@@ -1,6 +1,6 @@
 -- Sums and order of numbers of cycles with infinity.
-use Rattle.std.proofs.Common.{◌≡◌, ℕ, zero, suc, ◌+◌, ◌-◌, ◌*◌, ◌≤◌, ◌<◌, max, refl, sym, ap, subst, ◌∙◌, arith, add_assoc, add_comm, le_refl, le_trans, le_antisymm}
-use Rattle.wsym_terms.specs.Extents.{Extent, Finite, Infinite, plus, greater, times, if_any, IsAtMost}
+use Rattle.std.proofs.Common.{◌≡◌, ℕ, zero, suc, ◌+◌, ◌-◌, ◌≤◌, refl, sym, ap, subst, ◌∙◌, arith, add_assoc, add_comm, le_refl, le_trans, le_antisymm}
+use Rattle.wsym_terms.specs.Extents.{Extent, Finite, Infinite, plus, greater, times, IsAtMost}
 
 pub at_most_self : (a : Extent) → IsAtMost a a
 at_most_self (Finite a) = le_refl a
@@ -103,4 +103,4 @@ times_more m n a h =
     let s : times n a ≡ plus (times m a) (times (n - m) a) = ap (λ k. times k a) (sym e) ∙ times_add m (n - m) a in
     subst (λ (x : Extent). IsAtMost (times m a) x) (sym s)
     (subst (λ (x : Extent). IsAtMost x (plus (times m a) (times (n - m) a))) (nothing_plus (times m a))
-        (plus_at_most (times m a) (Finite 0) (times m a) (times (n - m) a) (at_most_self (times m a)) (zero_at_most (times (n - m) a))))
+    (plus_at_most (times m a) (Finite 0) (times m a) (times (n - m) a) (at_most_self (times m a)) (zero_at_most (times (n - m) a))))

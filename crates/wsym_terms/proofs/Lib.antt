@@ -1,3 +1,6 @@
+pub mod BoundLaws
 pub mod CostLaws
 pub mod ExtentLaws
+pub mod GrowthLaws
 pub mod SplitLaws
+pub mod TreeLaws

@@ -1,5 +1,5 @@
 -- The greatest sum over all splits, by its order: it is at least each split, and at most what each split is at most.
-use Rattle.std.proofs.Common.{◌≡◌, ℕ, zero, suc, ◌+◌, ◌-◌, ◌≤◌, ◌<◌, ◌⊎◌, inl, inr, refl, sym, ap, subst, ◌∙◌, arith}
+use Rattle.std.proofs.Common.{◌≡◌, ℕ, zero, suc, ◌-◌, ◌≤◌, ◌⊎◌, inl, inr, refl, sym, ap, subst, arith}
 use Rattle.wsym_terms.specs.Extents.{Extent, Finite, Infinite, plus, greater, IsAtMost}
 use Rattle.wsym_terms.specs.Trees.{best}
 use Rattle.wsym_terms.proofs.ExtentLaws.{at_most_self, at_most_trans, greater_left, greater_right, greater_at_most}
@@ -14,8 +14,8 @@ best_at_least f g i (suc k) n h =
     let last = plus (f (suc k)) (g (n - suc k)) in
     let cases : (i ≡ suc k) ⊎ (i ≤ k) = split_top i k h in
     elim cases as (λ _. IsAtMost (plus (f i) (g (n - i))) (greater last (best f g k n))) [
-      inl e ↦ subst (λ (j : ℕ). IsAtMost (plus (f j) (g (n - j))) (greater last (best f g k n))) (sym e) (greater_left last (best f g k n))
-    | inr le ↦ at_most_trans (plus (f i) (g (n - i))) (best f g k n) (greater last (best f g k n)) (best_at_least f g i k n le) (greater_right last (best f g k n))
+      | inl e ↦ subst (λ (j : ℕ). IsAtMost (plus (f j) (g (n - j))) (greater last (best f g k n))) (sym e) (greater_left last (best f g k n))
+      | inr le ↦ at_most_trans (plus (f i) (g (n - i))) (best f g k n) (greater last (best f g k n)) (best_at_least f g i k n le) (greater_right last (best f g k n))
     ]
   where
     split_top : (i k : ℕ) → i ≤ suc k → (i ≡ suc k) ⊎ (i ≤ k)

@@ -30,6 +30,11 @@ least_atom values (a ∷ atoms) = lesser (Finite (atom_value values a)) (least_a
 abbrev pub bound_value : Bound → List ℤ → Extent
 bound_value bound values = least_atom values bound.atoms
 
+-- a number of turns, if one is known
+abbrev pub turns_of : Option ℕ → Extent
+turns_of None = Infinite
+turns_of (Some n) = Finite n
+
 -- the same as a cost
 abbrev pub exact_cost : Extent → Cost
 exact_cost (Finite n) = Fin n
@@ -40,10 +45,9 @@ pub record CoefFits (parameters : ℕ) (coef : Coef) : Type 0 where
   pub known : coef.param < parameters
   pub factor : unsigned_abs coef.factor ≤ 2 ^ 90
 
--- at most 13 parameters, numbers of a magnitude of at most 2 ^ 90, and a divisor of at least 1
+-- at most 13 parameters, factors and a constant of a magnitude of at most 2 ^ 90, and a divisor of at least 1
 pub record AtomFits (parameters : ℕ) (atom : Atom) : Type 0 where
   pub few : length atom.coefs ≤ 13
   pub coefs : All (CoefFits parameters) atom.coefs
   pub constant : unsigned_abs atom.constant ≤ 2 ^ 90
   pub positive : pos 1 ≤ℤ atom.divisor
-  pub divisor : unsigned_abs atom.divisor ≤ 2 ^ 90

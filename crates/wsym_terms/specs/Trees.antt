@@ -1,5 +1,5 @@
 -- The size of a control-flow tree, and what it may cost for a number of executions.
-use Rattle.std.specs.Prelude.{ℕ, zero, suc, ◌+◌, ◌-◌, ◌*◌, max, sum, List, [], ◌∷◌, length, map, nat_le, if◌then◌else◌}
+use Rattle.std.specs.Prelude.{ℕ, zero, suc, ◌+◌, ◌-◌, ◌*◌, max, sum, List, [], ◌∷◌, length, nat_le, if◌then◌else◌}
 use Rattle.std.specs.List.{sum_by}
 use Rattle.wsym_terms.specs.Extents.{Extent, Finite, Infinite, plus, greater, times, if_any}
 use Rattle.wsym_terms.specs.declared.trees.Use.{Use}
@@ -92,3 +92,7 @@ meaning_of miss bounds = fold-Tree Meaning (level_meaning miss bounds)
 -- the cost of n executions of the tree of a whole function, in cycles
 abbrev pub tree_value : ℕ → (ℕ → Extent) → Tree → ℕ → Extent
 tree_value miss bounds tree n = (meaning_of miss bounds tree).value 0 n
+
+-- the same for a tree that stands at some depth
+abbrev pub value_at : ℕ → (ℕ → Extent) → Tree → ℕ → ℕ → Extent
+value_at miss bounds tree depth n = (meaning_of miss bounds tree).value depth n

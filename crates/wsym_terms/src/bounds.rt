@@ -1,5 +1,6 @@
 ghost use Rattle.std.specs.Prelude.{◌≡◌, ℕ, ℤ, pos, ◌+◌, ◌*◌, ◌^◌, ◌≤◌, ◌<◌, ◌*ℤ◌, ◌+ℤ◌, ◌≤ℤ◌, All, length, slice_get, unwrap_or, unsigned_abs, true};
-ghost use Rattle.wsym_terms.specs.Bounds.{AtomFits, CoefFits, atom_value, at_least_zero, bound_value, exact_cost, linear_sum};
+ghost use Rattle.wsym_terms.specs.Bounds.{AtomFits, CoefFits, atom_value, at_least_zero, bound_value, exact_cost, linear_sum, turns_of};
+ghost use Rattle.wsym_terms.specs.Extents.{Finite, lesser};
 ghost use Rattle.wsym_terms.specs.Costs.{is_in_range};
 ghost use Rattle.std.specs.Int.{int_div_euclid};
 
@@ -62,7 +63,7 @@ impl Bound {
     {
         let mut least = None;
         for atom in self.atoms.as_slice() {
-            least = Some(lesser(least, atom.value(values)));
+            least = Some(lesser_turns(least, atom.value(values)));
         }
         match least {
             Some(turns) => Cost::Fin(turns),
@@ -72,7 +73,10 @@ impl Bound {
 }
 
 /// The lesser of a number, if there is one yet, and another.
-fn lesser(least: Option<u128>, turns: u128) -> u128 {
+fn lesser_turns(least: Option<u128>, turns: u128) -> u128
+    ensures least { Finite result ≡ lesser (turns_of least) (Finite turns) }
+    ensures within { result ≤ turns }
+{
     match least {
         Some(least) => least.min(turns),
         None => turns,
@@ -86,10 +90,22 @@ impl Atom {
         ensures exact { result ≡ atom_value values.now self.now }
         ensures small { result < 2 ^ 127 }
     {
-        let sum = linear(self.coefs.as_slice(), values) + self.constant;
-        let turns = sum.div_euclid(self.divisor) + 1;
-        if turns < 0 { 0 } else { turns as u128 }
+        turns(
+            linear(self.coefs.as_slice(), values) + self.constant,
+            self.divisor,
+        )
     }
+}
+
+/// `max(0, floor(sum / divisor) + 1)`.
+fn turns(sum: i128, divisor: i128) -> u128
+    requires sum { unsigned_abs sum ≤ 14 * 2 ^ 121 }
+    requires divisor { pos 1 ≤ℤ divisor }
+    ensures exact { result ≡ at_least_zero (int_div_euclid sum divisor +ℤ pos 1) }
+    ensures small { result < 2 ^ 127 }
+{
+    let turns = sum.div_euclid(divisor) + 1;
+    if turns < 0 { 0 } else { turns as u128 }
 }
 
 /// The factors times the values of their parameters, added up.
@@ -113,6 +129,15 @@ impl Coef {
         ensures exact { result ≡ self.now.factor *ℤ unwrap_or (slice_get values.now self.now.param) (pos 0) }
         ensures small { unsigned_abs result ≤ 2 ^ 121 }
     {
-        self.factor * i128::from(values[self.param as usize])
+        product(self.factor, values[self.param as usize])
     }
+}
+
+/// The product of a factor and a value.
+fn product(factor: i128, value: i32) -> i128
+    requires { unsigned_abs factor ≤ 2 ^ 90 }
+    ensures exact { result ≡ factor *ℤ value }
+    ensures small { unsigned_abs result ≤ 2 ^ 121 }
+{
+    factor * i128::from(value)
 }

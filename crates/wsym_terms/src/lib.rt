@@ -20,4 +20,4 @@ mod trees;
 pub use bounds::{Atom, Bound, Coef, ParamRange};
 pub use costs::Cost;
 pub use names::Name;
-pub use trees::{Tree, Use};
+pub use trees::{Tree, Use, tree_value_of_none, tree_value_rises, tree_value_shares};

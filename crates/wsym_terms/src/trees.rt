@@ -1,5 +1,7 @@
-ghost use Rattle.std.specs.Prelude.{◌≡◌, ◌<◌, ◌^◌};
-ghost use Rattle.wsym_terms.specs.Trees.{size_of, sizes_of};
+ghost use Rattle.std.specs.Prelude.{◌≡◌, ◌<◌, ◌≤◌, ◌+◌, ◌^◌, ℕ};
+ghost use Rattle.wsym_terms.specs.Extents.{Extent, Finite, IsAtMost, plus};
+ghost use Rattle.wsym_terms.specs.Trees.{size_of, sizes_of, value_at};
+ghost use Rattle.wsym_terms.specs.declared.trees.Tree.{Tree as TreeValue};
 
 use sqlite_items::{Boxed, Items};
 
@@ -68,3 +70,20 @@ fn sizes(trees: &[Tree]) -> u64
     }
     total
 }
+
+/// A law of the value of a tree, at every depth, whatever a miss costs and the bounds of the loops are: no
+/// executions cost nothing.
+pub fn tree_value_of_none()
+    ensures { (miss : ℕ) (bounds : ℕ → Extent) (tree : TreeValue) (depth : ℕ) → value_at miss bounds tree depth 0 ≡ Finite 0 }
+{}
+
+/// A law of the value of a tree, like `tree_value_of_none`: more executions cost no less.
+pub fn tree_value_rises()
+    ensures { (miss : ℕ) (bounds : ℕ → Extent) (tree : TreeValue) (depth m n : ℕ) → m ≤ n → IsAtMost (value_at miss bounds tree depth m) (value_at miss bounds tree depth n) }
+{}
+
+/// A law of the value of a tree, like `tree_value_of_none`: some executions together cost no more than in two
+/// parts.
+pub fn tree_value_shares()
+    ensures { (miss : ℕ) (bounds : ℕ → Extent) (tree : TreeValue) (depth a b : ℕ) → IsAtMost (value_at miss bounds tree depth (a + b)) (plus (value_at miss bounds tree depth a) (value_at miss bounds tree depth b)) }
+{}
