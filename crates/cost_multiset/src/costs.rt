@@ -66,6 +66,17 @@ impl Multi {
         self.tail
     }
 
+    /// How many places there are before the tail.
+    pub fn length(&self) -> u64
+        ensures { result ≡ places self.now.runs }
+    {
+        let mut length = 0;
+        for run in self.runs.as_slice() {
+            length += run.count;
+        }
+        length
+    }
+
     /// The sum of the first `n` costs of the list; finite sums of 2^127 or more are Beyond. It takes no
     /// memory.
     #[tactic(auto, using(crate::proofs::SumLaws::sum_begins, crate::proofs::SumLaws::sum_goes_on, crate::proofs::SumLaws::sum_ends))]
@@ -87,7 +98,8 @@ impl Multi {
     /// The sums of two lists, place by place; finite sums of 2^127 or more are Beyond.
     pub fn plus(&self, alloc: Global, other: &Multi) -> Result<Multi, AllocError>
         requires { places self.now.runs + places other.now.runs < 2 ^ 63 }
-        ensures { IfOk result (λ costs. (k : ℕ) → place costs k ≡ sum_of (place self.now k) (place other.now k)) }
+        ensures places { IfOk result (λ costs. (k : ℕ) → place costs k ≡ sum_of (place self.now k) (place other.now k)) }
+        ensures length { IfOk result (λ costs. places costs.runs ≤ places self.now.runs + places other.now.runs) }
     {
         let tail = self.tail.plus(other.tail);
         let mut sums = Growing::new(alloc);
@@ -104,6 +116,7 @@ impl Multi {
     pub fn merge(&self, alloc: Global, other: &Multi) -> Result<Multi, AllocError>
         requires { places self.now.runs + places other.now.runs < 2 ^ 63 }
         ensures places { IfOk result (λ costs. (k : ℕ) → place costs k ≡ merged (place self.now) (place other.now) k) }
+        ensures length { IfOk result (λ costs. places costs.runs ≤ places self.now.runs + places other.now.runs) }
         ensures splits { IfOk result (λ costs. (n : ℕ) → prefix_sum costs n ≡ best (prefix_sum self.now) (prefix_sum other.now) n n) }
     {
         let tail = self.tail.larger(other.tail);
@@ -120,7 +133,8 @@ impl Multi {
     /// of 2^127 or more are Beyond. It takes time for the runs, and none for the places.
     pub fn group(&self, alloc: Global, by: Cost) -> Result<Multi, AllocError>
         requires { by ≢ Cost.Beyond }
-        ensures { IfOk result (λ costs. (k : ℕ) → place costs k ≡ grouped by (place self.now) k) }
+        ensures places { IfOk result (λ costs. (k : ℕ) → place costs k ≡ grouped by (place self.now) k) }
+        ensures length { IfOk result (λ costs. places costs.runs ≤ places self.now.runs) }
     {
         match by {
             Cost::Fin(by) => {
@@ -136,7 +150,8 @@ impl Multi {
     /// The sums of so many places each, at least one.
     fn group_places(&self, alloc: Global, by: u128) -> Result<Multi, AllocError>
         requires { 1 ≤ by }
-        ensures { IfOk result (λ costs. (k : ℕ) → place costs k ≡ grouped (CostValue.Fin by) (place self.now) k) }
+        ensures places { IfOk result (λ costs. (k : ℕ) → place costs k ≡ grouped (CostValue.Fin by) (place self.now) k) }
+        ensures length { IfOk result (λ costs. places costs.runs ≤ places self.now.runs) }
     {
         let tail = self.tail;
         let mut groups = Groups::new(alloc, by);
