@@ -9,5 +9,7 @@ mod groups;
 mod growing;
 mod joins;
 mod rest;
+#[cfg(test)]
+mod tests;
 
 pub use costs::{Multi, Run};
