@@ -15,6 +15,8 @@
 mod bounds;
 mod costs;
 mod names;
+#[cfg(test)]
+mod tests;
 mod trees;
 
 pub use bounds::{Atom, Bound, Coef, ParamRange};
