@@ -80,9 +80,6 @@ greater_at_most (Finite a) (Finite b) (Finite c) p q = omega arith
 greater_at_most (Finite a) Infinite (Finite c) p q = absurd q
 greater_at_most Infinite b (Finite c) p q = absurd p
 
-pub times_nothing : (n : ℕ) → times n (Finite 0) ≡ Finite 0
-times_nothing n = ap Finite (omega arith)
-
 pub times_zero : (a : Extent) → times zero a ≡ Finite 0
 times_zero (Finite a) = ap Finite (omega arith)
 times_zero Infinite = refl
