@@ -28,7 +28,6 @@ fn step(alloc: Global, value: u64, count: u64) -> Result<Multi, AllocError> {
     Ok(Multi::of(runs, Cost::Fin(0)))
 }
 
-
 /// The sum of two lists, or `{|0}` where they are too long.
 fn added(alloc: Global, a: &Multi, b: &Multi) -> Result<Multi, AllocError> {
     if a.length() < 1 << 62 && b.length() < 1 << 62 {
@@ -50,12 +49,16 @@ fn united(alloc: Global, a: &Multi, b: &Multi) -> Result<Multi, AllocError> {
 /// The list of this many runs of one place each, from `runs` down to 1, by doubling.
 fn stairs(alloc: Global, runs: u64) -> Result<Multi, AllocError> {
     let mut list = step(alloc, 0, 0)?;
-    for shift in 0..64 {
+    for shift in 0..64u32 {
         let length = list.length();
         let raised = added(alloc, &list, &step(alloc, length, length)?)?;
         list = united(alloc, &raised, &list)?;
         if (runs >> (63 - shift)) % 2 == 1 {
-            list = united(alloc, &list, &step(alloc, list.length().saturating_add(1), 1)?)?;
+            list = united(
+                alloc,
+                &list,
+                &step(alloc, list.length().saturating_add(1), 1)?,
+            )?;
         }
     }
     Ok(list)
