@@ -1,1 +1,4 @@
+pub mod Fetching
 pub mod Limits
+pub mod Names
+pub mod Texts

@@ -1,5 +1,5 @@
 -- The instruction cache: per set a list of lines, the newest first.
-use Rattle.std.specs.Prelude.{◌≡◌, ℕ, ◌/◌, ◌%◌, ◌==◌, ◌≤◌, Bool, false, if◌then◌else◌, List, [], ◌∷◌, length, take, slice_index_or, slice_set}
+use Rattle.std.specs.Prelude.{◌≡◌, ℕ, ◌/◌, ◌%◌, ◌==◌, ◌≤◌, Bool, false, if◌then◌else◌, List, [], ◌∷◌, length, take, replicate, slice_index_or, slice_set}
 use Rattle.std.specs.List.{AllByRecursion, list_any}
 use Rattle.fetch_timing.specs.declared.timing.Timing.{Timing}
 
@@ -47,3 +47,20 @@ pub record IsSet (t : Timing) (place : ℕ) (lines : List ℕ) : Type 0 where
 pub record IsCache (t : Timing) (sets : List (List ℕ)) : Type 0 where
   pub all_sets : length sets ≡ t.sets
   pub each : (place : ℕ) → IsSet t place (lines_at sets place)
+
+-- a cache by itself: the lines that each set may hold, and the sets, each with its lines, the newest first
+pub record Cache : Type 0 where
+  pub ways : ℕ
+  pub sets : List (List ℕ)
+
+-- the cache of a timing without any line
+abbrev pub empty_cache : Timing → Cache
+empty_cache t = record { ways = t.ways; sets = replicate t.sets [] }
+
+-- the lines of the set that a line belongs to
+abbrev pub lines_beside : Cache → ℕ → List ℕ
+lines_beside cache line = lines_at cache.sets (line % length cache.sets)
+
+-- the cache after the fetch of a line
+abbrev pub cache_after : Cache → ℕ → Cache
+cache_after cache line = record cache { sets = slice_set cache.sets (line % length cache.sets) (fetched cache.ways line (lines_beside cache line)) }

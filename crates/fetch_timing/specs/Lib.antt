@@ -1,2 +1,4 @@
 pub mod Caches
+pub mod Tables
+pub mod TimingFiles
 pub mod Timings

@@ -1,9 +1,17 @@
-//! What instructions and fetches cost: a table of cycles and the geometry of the instruction cache.
+//! What instructions and fetches cost: a table of cycles and the geometry of the instruction cache, the
+//! files that such tables are read from, and the cache itself.
 //!
 //! `Timing::unit()` has 16 sets of 2 lines of 16 bytes, 10 cycles for a miss and 1 cycle for each
 //! instruction.
 #![tactic(auto)]
 
+mod cache;
+mod reading;
+mod refusal;
+mod set;
 mod timing;
 
+pub use cache::LruCache;
+pub use reading::read_timing;
+pub use refusal::TimingRefusal;
 pub use timing::Timing;
