@@ -1,4 +1,6 @@
 pub mod Fetching
 pub mod Limits
 pub mod Names
+pub mod Numbers
+pub mod Tabling
 pub mod Texts

@@ -1,5 +1,5 @@
 -- Timing files: a JSON object with a number for each of 17 names.
-use Rattle.std.specs.Prelude.{ℕ, ◌==◌, ◌&&◌, Bool, true, if◌then◌else◌, nat_le, List, [], ◌∷◌, map, drop, slice_index, codes, Option, Some, None, option_map, option_and_then}
+use Rattle.std.specs.Prelude.{ℕ, ◌==◌, ◌&&◌, Bool, if◌then◌else◌, nat_le, List, [], ◌∷◌, map, drop, slice_index, codes, Option, Some, None, option_map, option_and_then}
 use Rattle.std.specs.List.{list_all, list_any}
 use Rattle.std.specs.Str.{bytes_eq, is_utf8}
 use Rattle.serde_json.specs.Data.{Data, Members, no_members, member}
@@ -31,27 +31,30 @@ abbrev pub cycles : ℕ → Bool
 cycles = from_to 0 1000000
 
 -- the classes of instructions, in their order
+abbrev pub class_names : List (List ℕ)
+class_names =
+    codes "compute" ∷ codes "shifted" ∷ codes "multiply" ∷ codes "long" ∷ codes "load" ∷ codes "store"
+    ∷ codes "loadmany" ∷ codes "storemany" ∷ codes "branch" ∷ codes "call" ∷ codes "exchange" ∷ []
+
 abbrev pub class_fields : List Field
-class_fields = map (λ name. record { name = name; allows = cycles })
-  (codes "compute" ∷ codes "shifted" ∷ codes "multiply" ∷ codes "long" ∷ codes "load" ∷ codes "store" ∷
-   codes "loadmany" ∷ codes "storemany" ∷ codes "branch" ∷ codes "call" ∷ codes "exchange" ∷ [])
+class_fields = map (λ name. record { name = name; allows = cycles }) class_names
 
 -- the instruction cache, what a miss costs, an instruction that is skipped, each register of a load or store of
 -- several, and the classes
 abbrev pub fields : List Field
 fields =
     record { name = codes "sets"; allows = set_counts }
-  ∷ record { name = codes "ways"; allows = way_counts }
-  ∷ record { name = codes "line"; allows = line_sizes }
-  ∷ record { name = codes "miss"; allows = cycles }
-  ∷ record { name = codes "skipped"; allows = cycles }
-  ∷ record { name = codes "register"; allows = cycles }
-  ∷ class_fields
+    ∷ record { name = codes "ways"; allows = way_counts }
+    ∷ record { name = codes "line"; allows = line_sizes }
+    ∷ record { name = codes "miss"; allows = cycles }
+    ∷ record { name = codes "skipped"; allows = cycles }
+    ∷ record { name = codes "register"; allows = cycles }
+    ∷ class_fields
 
 -- the whole number that an object has at a name, where it is one that the name may have
 abbrev pub number_at : Data → Field → Option ℕ
 number_at value field =
-  option_and_then (λ n. if field.allows n then Some n else None)
+    option_and_then (λ n. if field.allows n then Some n else None)
     (option_and_then as_u64 (option_and_then as_number (get field.name value)))
 
 -- one number for each of the names
@@ -81,7 +84,7 @@ timing_by ns = record {
 -- an object with exactly these names
 abbrev pub timing_in : Data → Option Timing
 timing_in value =
-  option_and_then
+    option_and_then
     (λ members. if list_all is_field (names_of members) then option_map timing_by (numbers_at value fields) else None)
     (as_object value)
 

@@ -34,6 +34,7 @@ impl Model for LruCache {
 
 impl LruCache {
     /// The empty cache of a timing, which is within its limits. It takes all its room here.
+    #[tactic(auto, using(crate::proofs::Tabling::empty_table))]
     pub fn new(alloc: Global, timing: &Timing) -> Result<LruCache, AllocError>
         requires { IsWithinLimits timing.now }
         ensures { IfOk result (λ cache. cache ≡ empty_cache timing.now) }
@@ -51,13 +52,15 @@ impl LruCache {
 
     /// Fetches a line, the number of its place in memory, and says whether it was there. It becomes the
     /// newest of its set, and a full set loses the oldest. It takes no memory.
+    #[tactic(auto, using(crate::proofs::Tabling::masked, crate::proofs::Tabling::in_table, crate::proofs::Tabling::few_at, crate::proofs::Tabling::table_after))]
     pub fn fetch(&mut self, line: u32) -> bool
         ensures hit { result ≡ holds line (lines_beside self.old line) }
         ensures after { self.new ≡ cache_after self.old line }
         ensures ways { self.new.ways ≡ self.old.ways }
         ensures sets { length self.new.sets ≡ length self.old.sets }
     {
+        let ways = self.ways as usize;
         let place = (line & self.mask) as usize;
-        self.sets[place].fetch(self.ways as usize, line)
+        self.sets[place].fetch(ways, line)
     }
 }

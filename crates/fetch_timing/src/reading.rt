@@ -50,7 +50,7 @@ fn value_of(alloc: Global, bytes: &[u8]) -> Result<Value, TimingRefusal>
 }
 
 /// The timing that a JSON value is.
-#[tactic(auto, using(crate::proofs::Names::same_names))]
+#[tactic(auto, using(crate::proofs::Names::other_name, crate::proofs::Names::all_names))]
 fn timing_in(value: &Value) -> Option<Timing>
     ensures { result ≡ timing_in (view value.now) }
 {

@@ -42,6 +42,7 @@ impl CacheSet {
 
     /// Fetches a line and says whether it was there. It becomes the newest, and a set of so many lines
     /// loses the oldest.
+    #[tactic(auto, using(crate::proofs::Fetching::distinct_after, crate::proofs::Fetching::front_of_places))]
     pub(crate) fn fetch(&mut self, ways: usize, line: u32) -> bool
         requires some { 1 ≤ ways }
         requires within { ways ≤ 16 }
@@ -49,7 +50,8 @@ impl CacheSet {
         ensures hit { result ≡ holds line self.old }
         ensures after { self.new ≡ fetched ways line self.old }
     {
-        let outcome = fetch(&mut self.places[..ways], self.used as usize, line);
+        let used = self.used as usize;
+        let outcome = fetch(&mut self.places[..ways], used, line);
         self.used = outcome.used as u32;
         outcome.hit
     }
@@ -63,6 +65,7 @@ struct Outcome {
 }
 
 /// Fetches a line into places of which so many are used.
+#[tactic(auto, using(crate::proofs::Fetching::fetched_newest, crate::proofs::Fetching::fetched_hit, crate::proofs::Fetching::fetched_room, crate::proofs::Fetching::fetched_full))]
 fn fetch(places: &mut [u32], used: usize, line: u32) -> Outcome
     requires some { 0 < length places.old }
     requires within { used ≤ length places.old }
