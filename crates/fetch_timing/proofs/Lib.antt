@@ -1,3 +1,4 @@
+pub mod Caching
 pub mod Fetching
 pub mod Limits
 pub mod Names

@@ -64,3 +64,8 @@ lines_beside cache line = lines_at cache.sets (line % length cache.sets)
 -- the cache after the fetch of a line
 abbrev pub cache_after : Cache → ℕ → Cache
 cache_after cache line = record cache { sets = slice_set cache.sets (line % length cache.sets) (fetched cache.ways line (lines_beside cache line)) }
+
+-- a cache of a timing
+pub record IsCacheOf (t : Timing) (cache : Cache) : Type 0 where
+  pub ways : cache.ways ≡ t.ways
+  pub sets : IsCache t cache.sets

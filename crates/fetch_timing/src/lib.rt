@@ -6,12 +6,17 @@
 #![tactic(auto)]
 
 mod cache;
+mod laws;
 mod reading;
 mod refusal;
 mod set;
 mod timing;
 
 pub use cache::LruCache;
+pub use laws::{
+    empty_cache_is_a_cache, fetch_costs_what_the_timing_says, fetch_keeps_a_cache,
+    fetch_leaves_what_the_timing_says,
+};
 pub use reading::read_timing;
 pub use refusal::TimingRefusal;
 pub use timing::Timing;
