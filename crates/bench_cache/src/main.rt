@@ -5,6 +5,9 @@
 //! of hits, keeps the work from being left out; a script takes the time.
 #![tactic(auto)]
 
+ghost use Rattle.std.specs.Prelude.{IfOk};
+ghost use Rattle.fetch_timing.specs.Timings.{IsWithinLimits};
+
 use anyhow::bail;
 use fetch_timing::{LruCache, Timing, read_timing};
 use std::alloc::Global;
@@ -18,11 +21,14 @@ struct Stream {
 }
 
 /// A timing of so many sets and ways.
-fn timing(alloc: Global, sets: u32, ways: u32) -> anyhow::Result<Timing> {
+fn timing(alloc: Global, sets: u32, ways: u32) -> anyhow::Result<Timing>
+    ensures { IfOk result (λ timing. IsWithinLimits timing) }
+{
     let text = format!(in alloc;
         "{{\"sets\":{sets},\"ways\":{ways},\"line\":16,\"miss\":10,\"skipped\":1,\"register\":1,\"compute\":1,\"shifted\":1,\"multiply\":1,\"long\":1,\"load\":1,\"store\":1,\"loadmany\":1,\"storemany\":1,\"branch\":1,\"call\":1,\"exchange\":1}}"
     )?;
-    Ok(read_timing(alloc, text.as_bytes())?)
+    let timing = read_timing(alloc, text.as_bytes())?;
+    Ok(timing)
 }
 
 /// The hits among so many fetches.

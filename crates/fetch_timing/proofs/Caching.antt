@@ -40,7 +40,7 @@ at_place : (t : Timing) (sets : List (List ℕ)) (line place : ℕ) → ((eqb pl
 at_place t sets line place (inl same) within c =
     let here : lines_at (after_fetch t sets line) (line % t.sets) ≡ fetched t.ways line (lines_at sets (line % t.sets)) = get_or-set_same sets (line % t.sets) _ [] within in
     subst (λ (p : ℕ). IsSet t p (lines_at (after_fetch t sets line) p)) (sym same.1)
-        (subst (λ (ls : List ℕ). IsSet t (line % t.sets) ls) (sym here) (set_after t line _ (c.each (line % t.sets))))
+    (subst (λ (ls : List ℕ). IsSet t (line % t.sets) ls) (sym here) (set_after t line _ (c.each (line % t.sets))))
 at_place t sets line place (inr other) within c =
     subst (λ (ls : List ℕ). IsSet t place ls) (sym (get_or-set_other sets (line % t.sets) place _ [] other.1)) (c.each place)
 
