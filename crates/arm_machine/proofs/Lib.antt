@@ -1,2 +1,5 @@
-pub mod Caching
-pub mod Stepping
+pub mod Listing
+pub mod Loading
+pub mod Lookups
+pub mod Making
+pub mod Signs

@@ -1,7 +1,16 @@
+pub mod Access
+pub mod Blocks
 pub mod Bounds
 pub mod Effects
-pub mod Plain
+pub mod MachineCodes
+pub mod Machines
+pub mod Memories
+pub mod Products
 pub mod Runs
+pub mod Shifts
+pub mod Starting
 pub mod Starts
 pub mod States
 pub mod Steps
+pub mod Sums
+pub mod Transfers

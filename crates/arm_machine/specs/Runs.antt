@@ -8,11 +8,11 @@ use Rattle.arm_machine.specs.Steps.Outcome.{Next, Stopped}
 
 -- the step doesn't stop, and the fact holds of what it leads to and costs
 abbrev pub IfNext : Outcome → (State → ℕ → Type 0) → Type 0
-IfNext (Next s c) P = P s c
+IfNext (Next s event) P = P s event.cycles
 IfNext (Stopped stop) P = ⊥
 
 -- From this state n steps meet no stop and cost c cycles together, and pc is home after them and after no fewer.
 abbrev pub Returns : ImageValue → Timing → ℕ → State → ℕ → ℕ → Type 0
-Returns image t home s zero c = (s.pc ≡ home) × (c ≡ 0)
+Returns image t home s zero c = (s.cpu.pc ≡ home) × (c ≡ 0)
 Returns image t home s (suc n) c =
-    (s.pc ≢ home) × IfNext (step image t s) (λ next spent. (rest : ℕ) × (c ≡ spent + rest) × Returns image t home next n rest)
+    (s.cpu.pc ≢ home) × IfNext (step image t s) (λ next spent. (rest : ℕ) × (c ≡ spent + rest) × Returns image t home next n rest)

@@ -1,37 +1,34 @@
 -- The states in which a function starts.
-use Rattle.std.specs.Prelude.{◌≡◌, ◌≢◌, ℕ, ℤ, pos, ◌+◌, ◌-◌, ◌%◌, ◌^◌, ◌<◌, ◌≤◌, ◌+ℤ◌, neg_ℤ, ◌≤ℤ◌, Some, None, List, [], ◌∷◌, length, slice_index}
+use Rattle.std.specs.Prelude.{◌≡◌, ◌≢◌, ℕ, pos, ◌+◌, ◌-◌, ◌%◌, ◌^◌, ◌<◌, ◌≤◌, ◌+ℤ◌, neg_ℤ, ◌≤ℤ◌, Some, None, List, [], ◌∷◌, length, slice_index}
 use Rattle.std.specs.FinMap as map
 use Rattle.elf32_image.specs.Parts.{ImageValue}
 use Rattle.elf32_image.specs.Bytes.{byte_at, constant_byte_at}
 use Rattle.fetch_timing.specs.declared.timing.Timing.{Timing}
 use Rattle.fetch_timing.specs.Caches.{IsCache}
 use Rattle.control_flow.specs.Points.{Point, IsCollected}
+use Rattle.arm_machine.specs.declared.start.RegisterValue.{RegisterValue}
 use Rattle.arm_machine.specs.States.{State, signed_of}
 
--- a register and the signed number that it holds
-pub record RegisterNumber : Type 0 where
-  pub register : ℕ
-  pub number : ℤ
-
-abbrev pub HasNumbers : List ℕ → List RegisterNumber → Type 0
+-- each of these registers holds its number
+abbrev pub HasNumbers : List ℕ → List RegisterValue → Type 0
 HasNumbers registers [] = Unit {0}
-HasNumbers registers (p ∷ numbers) = (signed_of (slice_index registers p.register) ≡ p.number) × HasNumbers registers numbers
+HasNumbers registers (p ∷ numbers) = (signed_of (slice_index registers p.register) ≡ p.value) × HasNumbers registers numbers
 
 -- a start state of the function at an address, with a stack of so many bytes and these numbers of its parameters
-pub record IsStart (image : ImageValue) (t : Timing) (entry stack : ℕ) (numbers : List RegisterNumber) (s : State) : Type 0 where
-  pub at_entry : s.pc ≡ entry
-  pub all_registers : length s.registers ≡ 15
-  pub words : (r : ℕ) → slice_index s.registers r < 2 ^ 32
-  pub params : HasNumbers s.registers numbers
+pub record IsStart (image : ImageValue) (t : Timing) (entry stack : ℕ) (numbers : List RegisterValue) (s : State) : Type 0 where
+  pub at_entry : s.cpu.pc ≡ entry
+  pub all_registers : length s.cpu.registers ≡ 15
+  pub words : (r : ℕ) → slice_index s.cpu.registers r < 2 ^ 32
+  pub params : HasNumbers s.cpu.registers numbers
   -- the stack pointer is a multiple of 4, with room for the stack below it and for arguments above
-  pub aligned : slice_index s.registers 13 % 4 ≡ 0
-  pub room_below : (neg_ℤ (pos (2 ^ 31)) +ℤ pos stack) ≤ℤ signed_of (slice_index s.registers 13)
-  pub room_above : signed_of (slice_index s.registers 13) ≤ℤ pos (2 ^ 31 - 65)
+  pub aligned : slice_index s.cpu.registers 13 % 4 ≡ 0
+  pub room_below : (neg_ℤ (pos (2 ^ 31)) +ℤ pos stack) ≤ℤ signed_of (slice_index s.cpu.registers 13)
+  pub room_above : signed_of (slice_index s.cpu.registers 13) ≤ℤ pos (2 ^ 31 - 65)
   -- no byte of the stack is loaded
-  pub apart : (below : ℕ) → 1 ≤ below → below ≤ stack → byte_at image ((slice_index s.registers 13 + 2 ^ 32 - below) % 2 ^ 32) ≡ None
+  pub apart : (below : ℕ) → 1 ≤ below → below ≤ stack → byte_at image ((slice_index s.cpu.registers 13 + 2 ^ 32 - below) % 2 ^ 32) ≡ None
   -- the return address is a multiple of 4, and no point that control reaches from the entry stands there
-  pub home : slice_index s.registers 14 % 4 ≡ 0
-  pub away : (p : Point) → IsCollected image entry p → p.address ≢ slice_index s.registers 14
+  pub home : slice_index s.cpu.registers 14 % 4 ≡ 0
+  pub away : (p : Point) → IsCollected image entry p → p.address ≢ slice_index s.cpu.registers 14
   -- the memory has the image's bytes where no program can write them
   pub constants : (a b : ℕ) → constant_byte_at image a ≡ Some b → map.get s.memory a ≡ Some b
   pub none_kept : s.kept ≡ []

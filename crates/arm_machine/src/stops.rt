@@ -20,7 +20,7 @@ pub enum Stop {
 /// Why a step gives no state.
 #[derive(Clone, Copy, Debug, PartialEq, Eq)]
 pub enum StepEnd {
-    /// Memory was refused. It may come at any step.
+    /// There was no memory for what the step writes.
     Memory,
     /// The machine stops.
     Stop(Stop),

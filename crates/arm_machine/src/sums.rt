@@ -1,7 +1,14 @@
-ghost use Rattle.std.specs.Prelude.{◌≡◌};
-ghost use Rattle.arm_machine.specs.Effects.{added, computed, flags_of, inverted, logical, one_if, sign, subtracted};
+//! Data processing.
 
-use arm_isa::Flags;
+ghost use Rattle.std.specs.Prelude.{◌≡◌, ◌<◌};
+ghost use Rattle.arm_isa.specs.Ranges.{IsOperand};
+ghost use Rattle.arm_machine.specs.States.{Does};
+ghost use Rattle.arm_machine.specs.Sums.{added, computed, computes, flags_after, flags_of, logical, one_if, subtracted};
+
+use crate::cpu::{Cpu, PC};
+use crate::shifts::{inverted, operand_carry, operand_value, sign};
+use crate::stops::Stop;
+use arm_isa::{Flags, Operand};
 
 /// What the arithmetic of an instruction gives.
 #[derive(Clone, Copy, Debug, PartialEq, Eq)]
@@ -14,8 +21,43 @@ pub struct Sum {
     pub overflow: bool,
 }
 
+/// Does a data-processing instruction.
+#[inline]
+pub(crate) fn compute(
+    cpu: &mut Cpu,
+    code: u8,
+    sets: bool,
+    rn: u8,
+    rd: u8,
+    operand: Operand,
+) -> Result<(), Stop>
+    requires first { rn < 16 }
+    requires destination { rd < 16 }
+    requires operand { IsOperand operand }
+    ensures { Does (computes cpu.old code sets rn rd operand) cpu.old cpu.new result }
+{
+    let carry = operand_carry(cpu, operand);
+    let value = operand_value(cpu, operand);
+    let sum = computed(code, cpu.flags, carry, cpu.read(rn), value);
+    let flags = flags_after(sets, cpu.flags, sum);
+    if 8 <= code && code <= 11 {
+        cpu.flags = flags;
+        cpu.advance();
+        return Ok(());
+    }
+    if rd == PC {
+        cpu.jump(sum.value)?;
+    } else {
+        cpu.set(rd, sum.value);
+        cpu.advance();
+    }
+    cpu.flags = flags;
+    Ok(())
+}
+
 /// What an operation gives for the operands `a` and `b`, by its code.
-pub(crate) fn computed(code: u8, flags: Flags, shifter_carry: bool, a: u32, b: u32) -> Sum
+#[inline]
+fn computed(code: u8, flags: Flags, shifter_carry: bool, a: u32, b: u32) -> Sum
     ensures { result ≡ computed code flags shifter_carry a b }
 {
     match code {
@@ -34,8 +76,17 @@ pub(crate) fn computed(code: u8, flags: Flags, shifter_carry: bool, a: u32, b: u
     }
 }
 
+/// The flags after an instruction: with `sets` they tell of its result.
+#[inline]
+fn flags_after(sets: bool, flags: Flags, sum: Sum) -> Flags
+    ensures { result ≡ flags_after sets flags sum }
+{
+    if sets { flags_of(sum) } else { flags }
+}
+
 /// The flags that tell of a result.
-pub(crate) fn flags_of(sum: Sum) -> Flags
+#[inline]
+fn flags_of(sum: Sum) -> Flags
     ensures { result ≡ flags_of sum }
 {
     Flags {
@@ -46,13 +97,7 @@ pub(crate) fn flags_of(sum: Sum) -> Flags
     }
 }
 
-/// Bit 31.
-pub(crate) fn sign(word: u32) -> bool
-    ensures { result ≡ sign word }
-{
-    word >= 0x8000_0000
-}
-
+#[inline]
 fn added(a: u32, b: u32, carry: bool) -> Sum
     ensures { result ≡ added a b carry }
 {
@@ -69,25 +114,21 @@ fn added(a: u32, b: u32, carry: bool) -> Sum
     }
 }
 
+#[inline]
 fn one_if(carry: bool) -> u64
     ensures { result ≡ one_if carry }
 {
     if carry { 1 } else { 0 }
 }
 
+#[inline]
 fn subtracted(a: u32, b: u32, carry: bool) -> Sum
     ensures { result ≡ subtracted a b carry }
 {
     added(a, inverted(b), carry)
 }
 
-/// All bits turned.
-pub(crate) fn inverted(word: u32) -> u32
-    ensures { result ≡ inverted word }
-{
-    u32::MAX - word
-}
-
+#[inline]
 fn logical(flags: Flags, shifter_carry: bool, value: u32) -> Sum
     ensures { result ≡ logical flags shifter_carry value }
 {

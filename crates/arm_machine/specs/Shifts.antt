@@ -1,0 +1,71 @@
+-- The second operand of data processing (ARM Architecture Reference Manual, A5.1), and the carry that the shifter gives.
+use Rattle.std.specs.Prelude.{ℕ, ◌+◌, ◌-◌, ◌*◌, ◌/◌, ◌%◌, ◌^◌, ◌==◌, ◌&&◌, min, nat_le, nat_lt, Bool, if◌then◌else◌}
+use Rattle.std.specs.Int.{rotate_right, w32}
+use Rattle.arm_isa.specs.declared.instruction.Operand.{Operand}
+use Rattle.arm_isa.specs.declared.instruction.Operand.TheVariants as operand
+use Rattle.arm_isa.specs.declared.instruction.Shift.{Shift}
+use Rattle.arm_isa.specs.declared.instruction.Shift.TheVariants as shift
+use Rattle.arm_machine.specs.declared.cpu.Cpu.{Cpu}
+use Rattle.arm_machine.specs.States.{read}
+
+-- bit 31, the sign of a word
+abbrev pub sign : ℕ → Bool
+sign w = nat_le (2 ^ 31) w
+
+abbrev pub bit : ℕ → ℕ → Bool
+bit w place = w / 2 ^ place % 2 == 1
+
+abbrev pub inverted : ℕ → ℕ
+inverted w = 2 ^ 32 - 1 - w
+
+-- to the right by at most 32, filled with zeros; by 32 all bits leave
+abbrev pub to_the_right : ℕ → ℕ → ℕ
+to_the_right w amount = if amount == 32 then 0 else w / 2 ^ amount
+
+-- to the right by at most 32, filled with the sign
+abbrev pub signed_to_the_right : ℕ → ℕ → ℕ
+signed_to_the_right w amount = if sign w then inverted (to_the_right (inverted w) amount) else to_the_right w amount
+
+-- By a constant amount (A5.1.4 to A5.1.13).
+abbrev pub shift_value : Bool → ℕ → Shift → ℕ
+shift_value carry w (shift.Lsl amount) = w * 2 ^ amount % 2 ^ 32
+shift_value carry w (shift.Lsr amount) = to_the_right w amount
+shift_value carry w (shift.Asr amount) = signed_to_the_right w amount
+shift_value carry w (shift.Ror amount) = rotate_right w32 w amount
+shift_value carry w shift.Rrx = w / 2 + (if carry then 2 ^ 31 else 0)
+
+-- the bit that leaves last; nothing leaves by LSL of 0
+abbrev pub shift_carry : Bool → ℕ → Shift → Bool
+shift_carry carry w (shift.Lsl amount) = if amount == 0 then carry else bit w (32 - amount)
+shift_carry carry w (shift.Lsr amount) = bit w (amount - 1)
+shift_carry carry w (shift.Asr amount) = bit w (amount - 1)
+shift_carry carry w (shift.Ror amount) = sign (rotate_right w32 w amount)
+shift_carry carry w shift.Rrx = w % 2 == 1
+
+-- By the low byte of a register, 0 to 255: LSL, LSR, ASR, and else ROR. From 32 on all bits leave, or the sign fills.
+abbrev pub value_by : ℕ → ℕ → ℕ → ℕ
+value_by kind w amount =
+    if kind == 0 then (if nat_lt amount 32 then w * 2 ^ amount % 2 ^ 32 else 0)
+    else if kind == 1 then (if nat_lt amount 32 then w / 2 ^ amount else 0)
+    else if kind == 2 then signed_to_the_right w (min amount 32)
+    else rotate_right w32 w amount
+
+-- by 0 nothing leaves; by more than 32 zeros leave, or the sign
+abbrev pub carry_by : Bool → ℕ → ℕ → ℕ → Bool
+carry_by carry kind w amount =
+    if amount == 0 then carry
+    else if kind == 0 then nat_le amount 32 && bit w (32 - amount)
+    else if kind == 1 then nat_le amount 32 && bit w (amount - 1)
+    else if kind == 2 then bit w (min amount 32 - 1)
+    else sign (rotate_right w32 w amount)
+
+abbrev pub operand_value : Cpu → Operand → ℕ
+operand_value cpu (operand.Value value turned) = value
+operand_value cpu (operand.Shifted rm by) = shift_value cpu.flags.c (read cpu rm) by
+operand_value cpu (operand.ByRegister rm kind rs) = value_by kind (read cpu rm) (read cpu rs % 256)
+
+-- the carry of a constant is the carry flag or, where its byte is rotated, bit 31
+abbrev pub operand_carry : Cpu → Operand → Bool
+operand_carry cpu (operand.Value value turned) = if turned then sign value else cpu.flags.c
+operand_carry cpu (operand.Shifted rm by) = shift_carry cpu.flags.c (read cpu rm) by
+operand_carry cpu (operand.ByRegister rm kind rs) = carry_by cpu.flags.c kind (read cpu rm) (read cpu rs % 256)

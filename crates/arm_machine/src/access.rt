@@ -1,0 +1,10 @@
+/// How many bytes an access to the memory touches.
+#[derive(Clone, Copy, Debug, PartialEq, Eq)]
+pub enum Size {
+    /// One byte.
+    Byte,
+    /// Two bytes, at a multiple of 2.
+    Half,
+    /// Four bytes, at a multiple of 4.
+    Word,
+}

@@ -1,0 +1,89 @@
+//! The registers, and how values go to them.
+
+ghost use Rattle.std.specs.Prelude.{◌≡◌, ◌<◌};
+ghost use Rattle.arm_machine.specs.States.{Does, advanced, jumped, next_pc, read, with_register, written};
+
+use crate::stops::Stop;
+use arm_isa::Flags;
+
+/// The number of pc as a register.
+pub(crate) const PC: u8 = 15;
+
+/// The registers of the processor.
+#[derive(Clone, Copy, Debug, PartialEq, Eq)]
+pub struct Cpu {
+    /// Registers 0 to 14.
+    pub registers: [u32; 15],
+    /// The address of the next instruction.
+    pub pc: u32,
+    /// The condition flags.
+    pub flags: Flags,
+}
+
+impl Cpu {
+    /// A register as an operand: register 15 reads as the address of the instruction + 8.
+    #[inline(always)]
+    pub(crate) fn read(&self, register: u8) -> u32
+        requires { register < 16 }
+        ensures { result ≡ read self.now register }
+    {
+        if register == PC {
+            self.pc.wrapping_add(8)
+        } else {
+            self.registers[register as usize]
+        }
+    }
+
+    /// The address of the next instruction in the order of addresses.
+    #[inline(always)]
+    pub(crate) fn next_pc(&self) -> u32
+        ensures { result ≡ next_pc self.now }
+    {
+        self.pc.wrapping_add(4)
+    }
+
+    /// Goes on behind the instruction.
+    #[inline(always)]
+    pub(crate) fn advance(&mut self)
+        ensures { self.new ≡ advanced self.old }
+    {
+        self.pc = self.next_pc();
+    }
+
+    /// Gives one of the registers 0 to 14 a value.
+    #[inline(always)]
+    pub(crate) fn set(&mut self, register: u8, value: u32)
+        requires { register < 15 }
+        ensures { self.new ≡ with_register self.old register value }
+    {
+        self.registers[register as usize] = value;
+    }
+
+    /// Gives pc a value.
+    #[inline(always)]
+    pub(crate) fn jump(&mut self, value: u32) -> Result<(), Stop>
+        ensures { Does (jumped self.old value) self.old self.new result }
+    {
+        if value % 4 == 0 {
+            self.pc = value;
+            Ok(())
+        } else {
+            Err(Stop::Leaves)
+        }
+    }
+
+    /// Gives a register a value, and goes on behind the instruction; register 15 is pc.
+    #[inline(always)]
+    pub(crate) fn write(&mut self, register: u8, value: u32) -> Result<(), Stop>
+        requires { register < 16 }
+        ensures { Does (written self.old register value) self.old self.new result }
+    {
+        if register == PC {
+            self.jump(value)
+        } else {
+            self.set(register, value);
+            self.advance();
+            Ok(())
+        }
+    }
+}

@@ -1,0 +1,219 @@
+//! Loads and stores of one number.
+
+ghost use Rattle.std.specs.Prelude.{◌≡◌, ◌<◌};
+ghost use Rattle.arm_isa.specs.Ranges.{IsOffset};
+ghost use Rattle.arm_isa.specs.Writes.{is_one_word, keeps_address};
+ghost use Rattle.arm_machine.specs.Access.{is_saved};
+ghost use Rattle.arm_machine.specs.States.{Does};
+ghost use Rattle.arm_machine.specs.Machines.{Ends, state_of};
+ghost use Rattle.arm_machine.specs.Transfers.{accessed, changed_base, extended, is_before_back, is_push, kind_size, loads, offset_value, rebased, stores, transfers, word_size};
+
+use crate::access::Size;
+use crate::cpu::Cpu;
+use crate::memory::Memory;
+use crate::shifts::shift_value;
+use crate::state::{MachineState, SP, Store, store_stop};
+use crate::stops::{StepEnd, Stop};
+use arm_isa::{HalfKind, Index, Offset};
+use elf32_image::Image;
+
+/// A load or store of one number: how many bytes, how a load fills them up, and where.
+#[derive(Clone, Copy)]
+pub(crate) struct Transfer {
+    pub size: Size,
+    pub kind: HalfKind,
+    pub index: Index,
+    pub up: bool,
+    pub rn: u8,
+    pub rd: u8,
+    pub offset: Offset,
+}
+
+/// Does a load.
+pub(crate) fn load(cpu: &mut Cpu, memory: &Memory<'_>, transfer: Transfer) -> Result<(), Stop>
+    requires base { transfer.rn < 16 }
+    requires destination { transfer.rd < 16 }
+    requires offset { IsOffset transfer.offset }
+    ensures { Does (loads cpu.old memory.now.bytes transfer.size transfer.kind transfer.index transfer.up transfer.rn transfer.rd transfer.offset) cpu.old cpu.new result }
+{
+    let value = memory.load(transfer.size, accessed(cpu, transfer))?;
+    let mut changed = rebased(cpu, transfer);
+    changed.write(transfer.rd, extended(transfer.kind, value))?;
+    *cpu = changed;
+    Ok(())
+}
+
+/// Does a store.
+pub(crate) fn store(
+    state: &mut MachineState<'_>,
+    image: &Image,
+    transfer: Transfer,
+) -> Result<(), StepEnd>
+    requires base { transfer.rn < 16 }
+    requires stored { transfer.rd < 16 }
+    requires offset { IsOffset transfer.offset }
+    ensures cache { state.new.cache ≡ state.old.cache }
+    ensures effect { Ends (stores image.now (state_of state.old) transfer.size transfer.index transfer.up transfer.rn transfer.rd transfer.offset (is_push transfer.size transfer.index transfer.up transfer.rn transfer.rd transfer.offset)) (state_of state.old) (state_of state.new) result }
+{
+    let address = accessed(&state.cpu, transfer);
+    let found = store_stop(
+        image,
+        &state.memory,
+        state.kept.as_slice(),
+        transfer.rn,
+        transfer.size,
+        address,
+    );
+    if let Some(stop) = found {
+        return Err(StepEnd::Stop(stop));
+    }
+    if state.reserve(1).is_err() {
+        return Err(StepEnd::Memory);
+    }
+    let value = state.cpu.read(transfer.rd);
+    let store = Store {
+        base: transfer.rn,
+        size: transfer.size,
+        address,
+        saves: is_push(transfer),
+    };
+    let mut changed = rebased(&state.cpu, transfer);
+    changed.advance();
+    state.put(store, value);
+    state.cpu = changed;
+    Ok(())
+}
+
+/// The address of the access.
+fn accessed(cpu: &Cpu, transfer: Transfer) -> u32
+    requires base { transfer.rn < 16 }
+    requires offset { IsOffset transfer.offset }
+    ensures { result ≡ accessed cpu.now transfer.index transfer.up transfer.rn transfer.offset }
+{
+    match transfer.index {
+        Index::Before | Index::BeforeBack => changed_base(cpu, transfer),
+        Index::After => cpu.read(transfer.rn),
+    }
+}
+
+/// The registers with the changed address as base, where it is written back.
+fn rebased(cpu: &Cpu, transfer: Transfer) -> Cpu
+    requires base { transfer.rn < 16 }
+    requires offset { IsOffset transfer.offset }
+    ensures { result ≡ rebased cpu.now transfer.index transfer.up transfer.rn transfer.offset }
+{
+    let mut changed = *cpu;
+    match transfer.index {
+        Index::BeforeBack | Index::After => {
+            if (transfer.rn as usize) < changed.registers.len() {
+                changed.set(transfer.rn, changed_base(cpu, transfer));
+            }
+        }
+        Index::Before => {}
+    }
+    changed
+}
+
+/// The base with the offset added or subtracted.
+fn changed_base(cpu: &Cpu, transfer: Transfer) -> u32
+    requires base { transfer.rn < 16 }
+    requires offset { IsOffset transfer.offset }
+    ensures { result ≡ changed_base cpu.now transfer.up transfer.rn transfer.offset }
+{
+    let base = cpu.read(transfer.rn);
+    let offset = offset_value(cpu, transfer.offset);
+    if transfer.up {
+        base.wrapping_add(offset)
+    } else {
+        base.wrapping_sub(offset)
+    }
+}
+
+fn offset_value(cpu: &Cpu, offset: Offset) -> u32
+    requires { IsOffset offset }
+    ensures { result ≡ offset_value cpu.now offset }
+{
+    match offset {
+        Offset::Value(bytes) => bytes,
+        Offset::Shifted { rm, shift } => shift_value(cpu.flags.c, cpu.read(rm), shift),
+    }
+}
+
+/// What a load gives the register: a signed kind fills the word with its sign.
+fn extended(kind: HalfKind, value: u32) -> u32
+    ensures { result ≡ extended kind value }
+{
+    match kind {
+        HalfKind::Half => value,
+        HalfKind::SignedByte => {
+            if value >= 1 << 7 {
+                value.wrapping_add(0xffff_ff00)
+            } else {
+                value
+            }
+        }
+        HalfKind::SignedHalf => {
+            if value >= 1 << 15 {
+                value.wrapping_add(0xffff_0000)
+            } else {
+                value
+            }
+        }
+    }
+}
+
+/// How many bytes a halfword instruction moves.
+pub(crate) fn kind_size(kind: HalfKind) -> Size
+    ensures { result ≡ kind_size kind }
+{
+    match kind {
+        HalfKind::Half | HalfKind::SignedHalf => Size::Half,
+        HalfKind::SignedByte => Size::Byte,
+    }
+}
+
+/// How many bytes LDR and STR move.
+pub(crate) fn word_size(byte: bool) -> Size
+    ensures { result ≡ word_size byte }
+{
+    if byte { Size::Byte } else { Size::Word }
+}
+
+/// Whether a store is `STR Rd,[r13,#-4]!` of a register that calls save.
+fn is_push(transfer: Transfer) -> bool
+    ensures { result ≡ is_push transfer.size transfer.index transfer.up transfer.rn transfer.rd transfer.offset }
+{
+    match transfer.size {
+        Size::Byte | Size::Half => false,
+        Size::Word => {
+            is_before_back(transfer.index)
+                && !transfer.up
+                && transfer.rn == SP
+                && is_one_word(transfer.offset)
+                && is_saved(transfer.rd)
+        }
+    }
+}
+
+fn is_before_back(index: Index) -> bool
+    ensures { result ≡ is_before_back index }
+{
+    matches!(index, Index::BeforeBack)
+}
+
+/// Whether an offset is four bytes.
+fn is_one_word(offset: Offset) -> bool
+    ensures { result ≡ is_one_word offset }
+{
+    match offset {
+        Offset::Value(bytes) => bytes == 4,
+        Offset::Shifted { .. } => false,
+    }
+}
+
+/// Whether calls save a register.
+pub(crate) fn is_saved(register: u8) -> bool
+    ensures { result ≡ is_saved register }
+{
+    4 <= register && register <= 11 || register == 14
+}
