@@ -2,4 +2,3 @@ pub mod Listing
 pub mod Loading
 pub mod Lookups
 pub mod Making
-pub mod Signs

@@ -3,9 +3,10 @@ use Rattle.std.proofs.Common.{◌≡◌, ℕ, suc, ◌+◌, ◌-◌, ◌%◌, �
 use Rattle.elf32_image.specs.Parts.{ImageValue}
 use Rattle.arm_isa.specs.Writes.{is_listed}
 use Rattle.arm_machine.specs.declared.access.Size.TheVariants as size
-use Rattle.arm_machine.specs.declared.cpu.Cpu.{Cpu}
-use Rattle.arm_machine.specs.declared.stops.Stop.{Stop}
-use Rattle.arm_machine.specs.States.{Bytes, State, and_then, read}
+use Rattle.arm_cpu.specs.declared.cpu.Cpu.{Cpu}
+use Rattle.arm_cpu.specs.declared.stops.Stop.{Stop}
+use Rattle.arm_cpu.specs.Registers.{and_then, read}
+use Rattle.arm_machine.specs.States.{Bytes, State}
 use Rattle.arm_machine.specs.Access.{is_saved, loaded, store_stop, stored}
 use Rattle.arm_machine.specs.Blocks.{AreAligned, block_stop, first_of, listed_from, load_block, next_word, placed, registers_of, stored_block}
 

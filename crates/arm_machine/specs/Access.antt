@@ -6,8 +6,8 @@ use Rattle.elf32_image.specs.Parts.{ImageValue}
 use Rattle.elf32_image.specs.Bytes.{constant_byte_at, word_of}
 use Rattle.arm_machine.specs.declared.access.Size.{Size}
 use Rattle.arm_machine.specs.declared.access.Size.TheVariants as size
-use Rattle.arm_machine.specs.declared.stops.Stop.{Stop}
-use Rattle.arm_machine.specs.declared.stops.Stop.TheVariants as stop
+use Rattle.arm_cpu.specs.declared.stops.Stop.{Stop}
+use Rattle.arm_cpu.specs.declared.stops.Stop.TheVariants as stop
 use Rattle.arm_machine.specs.States.{Bytes, State}
 
 -- a multiple of the size

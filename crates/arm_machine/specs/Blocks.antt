@@ -3,11 +3,12 @@
 use Rattle.std.specs.Prelude.{◌≡◌, ℕ, zero, suc, ◌+◌, ◌-◌, ◌*◌, ◌%◌, ◌^◌, ◌==◌, ◌&&◌, not, Bool, if◌then◌else◌, count_ones, Option, Some, None, Result, Ok, Err, List, [], ◌∷◌}
 use Rattle.elf32_image.specs.Parts.{ImageValue}
 use Rattle.arm_isa.specs.Writes.{is_listed}
-use Rattle.arm_machine.specs.declared.cpu.Cpu.{Cpu}
+use Rattle.arm_cpu.specs.declared.cpu.Cpu.{Cpu}
 use Rattle.arm_machine.specs.declared.access.Size.TheVariants as size
-use Rattle.arm_machine.specs.declared.stops.Stop.{Stop}
-use Rattle.arm_machine.specs.declared.stops.Stop.TheVariants as stop
-use Rattle.arm_machine.specs.States.{Bytes, State, advanced, and_then, read, with_register}
+use Rattle.arm_cpu.specs.declared.stops.Stop.{Stop}
+use Rattle.arm_cpu.specs.declared.stops.Stop.TheVariants as stop
+use Rattle.arm_cpu.specs.Registers.{advanced, and_then, read, with_register}
+use Rattle.arm_machine.specs.States.{Bytes, State}
 use Rattle.arm_machine.specs.Access.{is_saved, loaded, store_stop, stored}
 use Rattle.arm_machine.specs.Transfers.{unless_stopped, with_cpu}
 

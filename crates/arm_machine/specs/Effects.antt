@@ -5,11 +5,12 @@ use Rattle.arm_isa.specs.declared.instruction.Op.{Op}
 use Rattle.arm_isa.specs.declared.instruction.Op.TheVariants as op
 use Rattle.arm_isa.specs.declared.instruction.HalfKind.TheVariants as kind
 use Rattle.control_flow.specs.Points.{target}
-use Rattle.arm_machine.specs.declared.cpu.Cpu.{Cpu}
-use Rattle.arm_machine.specs.declared.stops.Stop.{Stop}
-use Rattle.arm_machine.specs.States.{State, jumped, next_pc, read, with_register}
-use Rattle.arm_machine.specs.Sums.{computes}
-use Rattle.arm_machine.specs.Products.{multiplies, multiplies_long}
+use Rattle.arm_cpu.specs.declared.cpu.Cpu.{Cpu}
+use Rattle.arm_cpu.specs.declared.stops.Stop.{Stop}
+use Rattle.arm_cpu.specs.Registers.{jumped, next_pc, read, with_register}
+use Rattle.arm_machine.specs.States.{State}
+use Rattle.arm_cpu.specs.Sums.{computes}
+use Rattle.arm_cpu.specs.Products.{multiplies, multiplies_long}
 use Rattle.arm_machine.specs.Transfers.{kind_size, transfers, with_cpu, word_size}
 use Rattle.arm_machine.specs.Blocks.{transfers_many}
 

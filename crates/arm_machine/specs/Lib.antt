@@ -5,12 +5,9 @@ pub mod Effects
 pub mod MachineCodes
 pub mod Machines
 pub mod Memories
-pub mod Products
 pub mod Runs
-pub mod Shifts
 pub mod Starting
 pub mod Starts
 pub mod States
 pub mod Steps
-pub mod Sums
 pub mod Transfers

@@ -6,8 +6,8 @@ use Rattle.elf32_image.specs.Parts.{ImageValue}
 use Rattle.elf32_image.specs.contracts.image.Image as image
 use Rattle.fetch_timing.specs.declared.timing.Timing.{Timing}
 use Rattle.fetch_timing.specs.contracts.timing.Timing as timing
-use Rattle.arm_machine.specs.declared.cpu.Cpu.{Cpu}
-use Rattle.arm_machine.specs.contracts.cpu.Cpu as cpu
+use Rattle.arm_cpu.specs.declared.cpu.Cpu.{Cpu}
+use Rattle.arm_cpu.specs.contracts.cpu.Cpu as cpu
 use Rattle.arm_machine.specs.States.{Bytes}
 use Rattle.arm_machine.specs.Machines.{MachineValue}
 

@@ -8,7 +8,7 @@ use Rattle.arm_machine.specs.declared.events.Event.{Event}
 use Rattle.arm_machine.specs.declared.state.MachineState.{MachineState}
 use Rattle.arm_machine.specs.declared.stops.StepEnd.{StepEnd}
 use Rattle.arm_machine.specs.declared.stops.StepEnd.TheVariants as end
-use Rattle.arm_machine.specs.declared.stops.Stop.{Stop}
+use Rattle.arm_cpu.specs.declared.stops.Stop.{Stop}
 use Rattle.arm_machine.specs.States.{State}
 use Rattle.arm_machine.specs.Steps.{Outcome}
 use Rattle.arm_machine.specs.Steps.Outcome.{Next, Stopped}

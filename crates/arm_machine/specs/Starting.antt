@@ -5,12 +5,13 @@ use Rattle.std.specs.Int.{cast_unsigned, w32}
 use Rattle.elf32_image.specs.Parts.{ImageValue}
 use Rattle.elf32_image.specs.Bytes.{byte_at}
 use Rattle.fetch_timing.specs.declared.timing.Timing.{Timing}
-use Rattle.arm_machine.specs.declared.cpu.Cpu.{Cpu}
+use Rattle.arm_cpu.specs.declared.cpu.Cpu.{Cpu}
 use Rattle.arm_machine.specs.declared.start.RegisterValue.{RegisterValue}
 use Rattle.arm_machine.specs.declared.start.StartRefusal.{StartRefusal}
 use Rattle.arm_machine.specs.declared.start.StartRefusal.TheVariants as refusal
 use Rattle.arm_machine.specs.Memories.{start_memory}
-use Rattle.arm_machine.specs.States.{State, signed_of}
+use Rattle.arm_cpu.specs.Registers.{signed_of}
+use Rattle.arm_machine.specs.States.{State}
 
 -- the return address with which a run starts
 abbrev pub home : ℕ

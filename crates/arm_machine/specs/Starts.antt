@@ -7,7 +7,8 @@ use Rattle.fetch_timing.specs.declared.timing.Timing.{Timing}
 use Rattle.fetch_timing.specs.Caches.{IsCache}
 use Rattle.control_flow.specs.Points.{Point, IsCollected}
 use Rattle.arm_machine.specs.declared.start.RegisterValue.{RegisterValue}
-use Rattle.arm_machine.specs.States.{State, signed_of}
+use Rattle.arm_cpu.specs.Registers.{signed_of}
+use Rattle.arm_machine.specs.States.{State}
 
 -- each of these registers holds its number
 abbrev pub HasNumbers : List ℕ → List RegisterValue → Type 0

@@ -10,9 +10,10 @@ use Rattle.fetch_timing.specs.Timings.{cost_of}
 use Rattle.fetch_timing.specs.Caches.{after_fetch, holds, line_of, lines_at, penalty}
 use Rattle.control_flow.specs.Instructions.{instruction_at}
 use Rattle.arm_machine.specs.declared.events.Event.{Event}
-use Rattle.arm_machine.specs.declared.stops.Stop.{Stop}
-use Rattle.arm_machine.specs.declared.stops.Stop.TheVariants as stop
-use Rattle.arm_machine.specs.States.{State, advanced, signed_of}
+use Rattle.arm_cpu.specs.declared.stops.Stop.{Stop}
+use Rattle.arm_cpu.specs.declared.stops.Stop.TheVariants as stop
+use Rattle.arm_cpu.specs.Registers.{advanced, signed_of}
+use Rattle.arm_machine.specs.States.{State}
 use Rattle.arm_machine.specs.Effects.{effect}
 
 -- a step leads to a state, with what can be seen of it, or it stops

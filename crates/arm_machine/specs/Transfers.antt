@@ -8,12 +8,13 @@ use Rattle.arm_isa.specs.declared.instruction.HalfKind.TheVariants as kind
 use Rattle.arm_isa.specs.declared.instruction.Offset.{Offset}
 use Rattle.arm_isa.specs.declared.instruction.Offset.TheVariants as offset
 use Rattle.arm_isa.specs.Writes.{is_one_word, keeps_address}
-use Rattle.arm_machine.specs.declared.cpu.Cpu.{Cpu}
+use Rattle.arm_cpu.specs.declared.cpu.Cpu.{Cpu}
 use Rattle.arm_machine.specs.declared.access.Size.{Size}
 use Rattle.arm_machine.specs.declared.access.Size.TheVariants as size
-use Rattle.arm_machine.specs.declared.stops.Stop.{Stop}
-use Rattle.arm_machine.specs.States.{Bytes, State, advanced, and_then, read, with_register, written}
-use Rattle.arm_machine.specs.Shifts.{shift_value}
+use Rattle.arm_cpu.specs.declared.stops.Stop.{Stop}
+use Rattle.arm_cpu.specs.Registers.{advanced, and_then, read, with_register, written}
+use Rattle.arm_machine.specs.States.{Bytes, State}
+use Rattle.arm_cpu.specs.Shifts.{shift_value}
 use Rattle.arm_machine.specs.Access.{is_saved, loaded, store_stop, stored}
 
 abbrev pub offset_value : Cpu → Offset → ℕ

@@ -3,15 +3,16 @@
 ghost use Rattle.std.specs.Prelude.{◌≡◌, ◌<◌, ◌≤◌, ◌+◌, ◌&&◌, None, vec_len, vec_capacity};
 ghost use Rattle.arm_isa.specs.Writes.{is_listed};
 ghost use Rattle.arm_machine.specs.Access.{is_saved};
-ghost use Rattle.arm_machine.specs.States.{Does};
+ghost use Rattle.arm_cpu.specs.Registers.{Does};
 ghost use Rattle.arm_machine.specs.Machines.{Ends, state_of};
 ghost use Rattle.arm_machine.specs.Blocks.{AreAligned, block_base, block_stop, is_push_block, landed, load_block, loads_many, lowest, placed, rebased_block, registers_of, stored_block, stores_many};
 
 use crate::access::Size;
-use crate::cpu::{Cpu, PC};
+use arm_cpu::{Cpu, PC};
 use crate::memory::Memory;
 use crate::state::{MachineState, SP, Store, store_stop};
-use crate::stops::{StepEnd, Stop};
+use crate::stops::StepEnd;
+use arm_cpu::Stop;
 use crate::transfers::is_saved;
 use elf32_image::Image;
 

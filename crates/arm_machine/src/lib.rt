@@ -5,24 +5,19 @@
 
 mod access;
 mod blocks;
-mod cpu;
 mod effects;
 mod events;
 mod machine;
 mod memory;
-mod products;
-mod shifts;
 mod start;
 mod state;
 mod stepping;
 mod stops;
-mod sums;
 mod transfers;
 
 pub use access::Size;
-pub use cpu::Cpu;
+pub use arm_cpu::{Cpu, Stop};
 pub use events::Event;
 pub use machine::Machine;
 pub use start::{RegisterValue, StartRefusal};
-pub use stops::{StepEnd, Stop};
-pub use sums::Sum;
+pub use stops::StepEnd;

@@ -7,7 +7,7 @@ ghost use Rattle.arm_machine.specs.Access.{bytes_of, half_of, is_aligned, loaded
 ghost use Rattle.arm_machine.specs.Memories.{Held, start_byte, start_memory};
 
 use crate::access::Size;
-use crate::stops::Stop;
+use arm_cpu::Stop;
 use elf32_image::{Image, Loaded};
 use std::alloc::{AllocError, Global};
 use std::collections::HashMap;

@@ -2,14 +2,15 @@
 
 ghost use Rattle.std.specs.Prelude.{◌≡◌, int_lt, not, filter};
 ghost use Rattle.arm_isa.specs.Ranges.{IsInsn};
-ghost use Rattle.arm_machine.specs.States.{signed_of};
+ghost use Rattle.arm_cpu.specs.Registers.{signed_of};
 ghost use Rattle.arm_machine.specs.Steps.{event_at, execute, outcome_of, settle, step};
 ghost use Rattle.arm_machine.specs.Machines.{Answers, Ends, IsReady, state_of};
 
 use crate::effects::execute;
 use crate::events::Event;
 use crate::state::{MachineState, SP};
-use crate::stops::{StepEnd, Stop};
+use crate::stops::StepEnd;
+use arm_cpu::Stop;
 use arm_isa::{Insn, class_of, passes};
 use control_flow::instruction_at;
 use elf32_image::Image;

@@ -4,16 +4,17 @@ ghost use Rattle.std.specs.Prelude.{◌≡◌, ◌<◌};
 ghost use Rattle.arm_isa.specs.Ranges.{IsOffset};
 ghost use Rattle.arm_isa.specs.Writes.{is_one_word, keeps_address};
 ghost use Rattle.arm_machine.specs.Access.{is_saved};
-ghost use Rattle.arm_machine.specs.States.{Does};
+ghost use Rattle.arm_cpu.specs.Registers.{Does};
 ghost use Rattle.arm_machine.specs.Machines.{Ends, state_of};
 ghost use Rattle.arm_machine.specs.Transfers.{accessed, changed_base, extended, is_before_back, is_push, kind_size, loads, offset_value, rebased, stores, transfers, word_size};
 
 use crate::access::Size;
-use crate::cpu::Cpu;
+use arm_cpu::Cpu;
 use crate::memory::Memory;
-use crate::shifts::shift_value;
+use arm_cpu::shift_value;
 use crate::state::{MachineState, SP, Store, store_stop};
-use crate::stops::{StepEnd, Stop};
+use crate::stops::StepEnd;
+use arm_cpu::Stop;
 use arm_isa::{HalfKind, Index, Offset};
 use elf32_image::Image;
 
@@ -105,9 +106,7 @@ fn rebased(cpu: &Cpu, transfer: Transfer) -> Cpu
     let mut changed = *cpu;
     match transfer.index {
         Index::BeforeBack | Index::After => {
-            if (transfer.rn as usize) < changed.registers.len() {
-                changed.set(transfer.rn, changed_base(cpu, transfer));
-            }
+            changed.set(transfer.rn, changed_base(cpu, transfer));
         }
         Index::Before => {}
     }

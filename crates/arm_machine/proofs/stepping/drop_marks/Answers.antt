@@ -1,6 +1,6 @@
 use Rattle.std.proofs.Common.{ℕ, ℤ, ap, ◌∙◌, not, filter, int_lt, rules}
 use Rattle.std.proofs.lemmas.Fn.{filter_same}
-use Rattle.arm_machine.specs.States.{signed_of}
+use Rattle.arm_cpu.specs.Registers.{signed_of}
 use Rattle.arm_machine.proofs.stepping.drop_marks.Goals as goal
 
 pub returns-then-not-is_empty : goal.returns-then-not-is_empty

@@ -1,14 +1,14 @@
 //! Multiplications.
 
 ghost use Rattle.std.specs.Prelude.{◌≡◌, ◌<◌};
-ghost use Rattle.arm_machine.specs.Products.{long_product, multiplies, multiplies_long, pair, product, product_flags, signed_product};
+ghost use Rattle.arm_cpu.specs.Products.{long_product, multiplies, multiplies_long, pair, product, product_flags, signed_product};
 
 use crate::cpu::Cpu;
 use crate::shifts::sign;
 use arm_isa::Flags;
 
 /// Does MUL, or MLA with `add`.
-pub(crate) fn multiply(cpu: &mut Cpu, add: bool, sets: bool, rd: u8, rn: u8, rs: u8, rm: u8)
+pub fn multiply(cpu: &mut Cpu, add: bool, sets: bool, rd: u8, rn: u8, rs: u8, rm: u8)
     requires rd { rd < 15 }
     requires rn { rn < 15 }
     requires rs { rs < 15 }
@@ -24,7 +24,7 @@ pub(crate) fn multiply(cpu: &mut Cpu, add: bool, sets: bool, rd: u8, rn: u8, rs:
 
 /// Does UMULL or SMULL, or UMLAL or SMLAL with `add`.
 #[expect(clippy::too_many_arguments)]
-pub(crate) fn multiply_long(
+pub fn multiply_long(
     cpu: &mut Cpu,
     signed: bool,
     add: bool,

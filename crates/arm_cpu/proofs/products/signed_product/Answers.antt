@@ -1,7 +1,7 @@
 use Rattle.std.proofs.Common.{ℤ, ◌*ℤ◌, ap, ◌∙◌}
 use Rattle.std.specs.Int.{cast_signed, cast_unsigned, w32, w64}
-use Rattle.arm_machine.proofs.Signs.{low_bits}
-use Rattle.arm_machine.proofs.products.signed_product.Goals as goal
+use Rattle.arm_cpu.proofs.Signs.{low_bits}
+use Rattle.arm_cpu.proofs.products.signed_product.Goals as goal
 
 abbrev as_wide : ℤ → ℤ
 as_wide z = cast_signed w64 (cast_unsigned w64 (cast_signed w32 (cast_unsigned w32 z)))

@@ -1,13 +1,13 @@
 //! The registers, and how values go to them.
 
 ghost use Rattle.std.specs.Prelude.{◌≡◌, ◌<◌};
-ghost use Rattle.arm_machine.specs.States.{Does, advanced, jumped, next_pc, read, with_register, written};
+ghost use Rattle.arm_cpu.specs.Registers.{Does, advanced, jumped, next_pc, read, with_register, written};
 
 use crate::stops::Stop;
 use arm_isa::Flags;
 
 /// The number of pc as a register.
-pub(crate) const PC: u8 = 15;
+pub const PC: u8 = 15;
 
 /// The registers of the processor.
 #[derive(Clone, Copy, Debug, PartialEq, Eq)]
@@ -23,7 +23,7 @@ pub struct Cpu {
 impl Cpu {
     /// A register as an operand: register 15 reads as the address of the instruction + 8.
     #[inline(always)]
-    pub(crate) fn read(&self, register: u8) -> u32
+    pub fn read(&self, register: u8) -> u32
         requires { register < 16 }
         ensures { result ≡ read self.now register }
     {
@@ -36,7 +36,7 @@ impl Cpu {
 
     /// The address of the next instruction in the order of addresses.
     #[inline(always)]
-    pub(crate) fn next_pc(&self) -> u32
+    pub fn next_pc(&self) -> u32
         ensures { result ≡ next_pc self.now }
     {
         self.pc.wrapping_add(4)
@@ -44,24 +44,25 @@ impl Cpu {
 
     /// Goes on behind the instruction.
     #[inline(always)]
-    pub(crate) fn advance(&mut self)
+    pub fn advance(&mut self)
         ensures { self.new ≡ advanced self.old }
     {
         self.pc = self.next_pc();
     }
 
-    /// Gives one of the registers 0 to 14 a value.
+    /// Gives one of the registers 0 to 14 a value. Another number changes nothing.
     #[inline(always)]
-    pub(crate) fn set(&mut self, register: u8, value: u32)
-        requires { register < 15 }
+    pub fn set(&mut self, register: u8, value: u32)
         ensures { self.new ≡ with_register self.old register value }
     {
-        self.registers[register as usize] = value;
+        if register < PC {
+            self.registers[register as usize] = value;
+        }
     }
 
     /// Gives pc a value.
     #[inline(always)]
-    pub(crate) fn jump(&mut self, value: u32) -> Result<(), Stop>
+    pub fn jump(&mut self, value: u32) -> Result<(), Stop>
         ensures { Does (jumped self.old value) self.old self.new result }
     {
         if value % 4 == 0 {
@@ -74,7 +75,7 @@ impl Cpu {
 
     /// Gives a register a value, and goes on behind the instruction; register 15 is pc.
     #[inline(always)]
-    pub(crate) fn write(&mut self, register: u8, value: u32) -> Result<(), Stop>
+    pub fn write(&mut self, register: u8, value: u32) -> Result<(), Stop>
         requires { register < 16 }
         ensures { Does (written self.old register value) self.old self.new result }
     {

@@ -2,8 +2,8 @@
 
 ghost use Rattle.std.specs.Prelude.{◌≡◌, ◌<◌};
 ghost use Rattle.arm_isa.specs.Ranges.{IsOperand};
-ghost use Rattle.arm_machine.specs.States.{Does};
-ghost use Rattle.arm_machine.specs.Sums.{added, computed, computes, flags_after, flags_of, logical, one_if, subtracted};
+ghost use Rattle.arm_cpu.specs.Registers.{Does};
+ghost use Rattle.arm_cpu.specs.Sums.{added, computed, computes, flags_after, flags_of, logical, one_if, subtracted};
 
 use crate::cpu::{Cpu, PC};
 use crate::shifts::{inverted, operand_carry, operand_value, sign};
@@ -23,7 +23,7 @@ pub struct Sum {
 
 /// Does a data-processing instruction.
 #[inline]
-pub(crate) fn compute(
+pub fn compute(
     cpu: &mut Cpu,
     code: u8,
     sets: bool,

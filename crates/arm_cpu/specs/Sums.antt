@@ -3,11 +3,11 @@ use Rattle.std.specs.Prelude.{ℕ, ◌+◌, ◌%◌, ◌^◌, ◌==◌, ◌&&◌
 use Rattle.arm_isa.specs.declared.conditions.Flags.{Flags}
 use Rattle.arm_isa.specs.declared.instruction.Operand.{Operand}
 use Rattle.arm_isa.specs.Decoding.{is_test}
-use Rattle.arm_machine.specs.declared.cpu.Cpu.{Cpu}
-use Rattle.arm_machine.specs.declared.stops.Stop.{Stop}
-use Rattle.arm_machine.specs.declared.sums.Sum.{Sum}
-use Rattle.arm_machine.specs.States.{read, advanced, written}
-use Rattle.arm_machine.specs.Shifts.{inverted, operand_carry, operand_value, sign}
+use Rattle.arm_cpu.specs.declared.cpu.Cpu.{Cpu}
+use Rattle.arm_cpu.specs.declared.stops.Stop.{Stop}
+use Rattle.arm_cpu.specs.declared.sums.Sum.{Sum}
+use Rattle.arm_cpu.specs.Registers.{read, advanced, written}
+use Rattle.arm_cpu.specs.Shifts.{inverted, operand_carry, operand_value, sign}
 
 abbrev pub one_if : Bool → ℕ
 one_if true = 1

@@ -2,14 +2,14 @@
 
 ghost use Rattle.std.specs.Prelude.{◌≡◌, ◌≤◌, ◌<◌};
 ghost use Rattle.arm_isa.specs.Ranges.{IsOperand, IsShift};
-ghost use Rattle.arm_machine.specs.Shifts.{bit, carry_by, inverted, operand_carry, operand_value, shift_carry, shift_value, sign, signed_to_the_right, to_the_right, value_by};
+ghost use Rattle.arm_cpu.specs.Shifts.{bit, carry_by, inverted, operand_carry, operand_value, shift_carry, shift_value, sign, signed_to_the_right, to_the_right, value_by};
 
 use crate::cpu::Cpu;
 use arm_isa::{Operand, Shift};
 
 /// The value of the second operand.
 #[inline]
-pub(crate) fn operand_value(cpu: &Cpu, operand: Operand) -> u32
+pub fn operand_value(cpu: &Cpu, operand: Operand) -> u32
     requires { IsOperand operand }
     ensures { result ≡ operand_value cpu.now operand }
 {
@@ -22,7 +22,7 @@ pub(crate) fn operand_value(cpu: &Cpu, operand: Operand) -> u32
 
 /// The shifter's carry.
 #[inline]
-pub(crate) fn operand_carry(cpu: &Cpu, operand: Operand) -> bool
+pub fn operand_carry(cpu: &Cpu, operand: Operand) -> bool
     requires { IsOperand operand }
     ensures { result ≡ operand_carry cpu.now operand }
 {
@@ -37,7 +37,7 @@ pub(crate) fn operand_carry(cpu: &Cpu, operand: Operand) -> bool
 
 /// A word shifted by a constant amount.
 #[inline]
-pub(crate) fn shift_value(carry: bool, word: u32, shift: Shift) -> u32
+pub fn shift_value(carry: bool, word: u32, shift: Shift) -> u32
     requires { IsShift shift }
     ensures { result ≡ shift_value carry word shift }
 {
@@ -126,7 +126,7 @@ fn bit(word: u32, place: u32) -> bool
 
 /// Bit 31.
 #[inline(always)]
-pub(crate) fn sign(word: u32) -> bool
+pub fn sign(word: u32) -> bool
     ensures { result ≡ sign word }
 {
     word >= 0x8000_0000
@@ -134,7 +134,7 @@ pub(crate) fn sign(word: u32) -> bool
 
 /// All bits turned.
 #[inline(always)]
-pub(crate) fn inverted(word: u32) -> u32
+pub fn inverted(word: u32) -> u32
     ensures { result ≡ inverted word }
 {
     u32::MAX - word

@@ -5,8 +5,8 @@ use Rattle.arm_isa.specs.declared.instruction.Operand.{Operand}
 use Rattle.arm_isa.specs.declared.instruction.Operand.TheVariants as operand
 use Rattle.arm_isa.specs.declared.instruction.Shift.{Shift}
 use Rattle.arm_isa.specs.declared.instruction.Shift.TheVariants as shift
-use Rattle.arm_machine.specs.declared.cpu.Cpu.{Cpu}
-use Rattle.arm_machine.specs.States.{read}
+use Rattle.arm_cpu.specs.declared.cpu.Cpu.{Cpu}
+use Rattle.arm_cpu.specs.Registers.{read}
 
 -- bit 31, the sign of a word
 abbrev pub sign : ℕ → Bool

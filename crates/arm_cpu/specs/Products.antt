@@ -3,8 +3,8 @@
 use Rattle.std.specs.Prelude.{ℕ, ◌+◌, ◌*◌, ◌/◌, ◌%◌, ◌^◌, ◌==◌, ◌*ℤ◌, nat_le, Bool, if◌then◌else◌}
 use Rattle.std.specs.Int.{cast_unsigned, w64}
 use Rattle.arm_isa.specs.declared.conditions.Flags.{Flags}
-use Rattle.arm_machine.specs.declared.cpu.Cpu.{Cpu}
-use Rattle.arm_machine.specs.States.{advanced, read, signed_of, with_register}
+use Rattle.arm_cpu.specs.declared.cpu.Cpu.{Cpu}
+use Rattle.arm_cpu.specs.Registers.{advanced, read, signed_of, with_register}
 
 -- with S the flags tell whether the product is negative, and whether it is 0
 abbrev pub product_flags : Bool → Flags → Bool → Bool → Flags

@@ -1,0 +1,4 @@
+pub mod Products
+pub mod Registers
+pub mod Shifts
+pub mod Sums
