@@ -83,14 +83,16 @@ impl<'a> Machine<'a> {
         }
     }
 
-    /// Makes a step, and tells what can be seen of it. After an error the machine is as before.
+    /// Makes a step, and tells what can be seen of it; it costs at most 18,000,000 cycles. After an error the
+    /// machine is as before.
     ///
     /// # Errors
     ///
     /// `Stop`, exactly where the machine stops, with the stop. `Memory` where memory is refused for what the
     /// step writes.
     pub fn step(&mut self) -> Result<Event, StepEnd>
-        ensures { Makes (step self.old.image self.old.timing self.old.state) self.old self.new result }
+        ensures limit { IfOk result (λ event. event.cycles ≤ 18000000) }
+        ensures step { Makes (step self.old.image self.old.timing self.old.state) self.old self.new result }
     {
         step(&mut self.state, self.image, self.timing)
     }

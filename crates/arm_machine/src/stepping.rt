@@ -1,6 +1,6 @@
 //! One step, and what it costs.
 
-ghost use Rattle.std.specs.Prelude.{◌≡◌, int_lt, not, filter};
+ghost use Rattle.std.specs.Prelude.{◌≡◌, ◌≤◌, IfOk, int_lt, not, filter};
 ghost use Rattle.arm_isa.specs.Ranges.{IsInsn};
 ghost use Rattle.arm_cpu.specs.Registers.{signed_of};
 ghost use Rattle.arm_machine.specs.Steps.{event_at, execute, outcome_of, settle, step};
@@ -24,6 +24,7 @@ pub(crate) fn step(
 ) -> Result<Event, StepEnd>
     requires { IsReady timing.now state.old.cache }
     ensures ready { IsReady timing.now state.new.cache }
+    ensures limit { IfOk result (λ event. event.cycles ≤ 18000000) }
     ensures step { Answers (step image.now timing.now (state_of state.old)) (state_of state.old) (state_of state.new) result }
 {
     if !image.is_code(state.cpu.pc) {
@@ -45,6 +46,7 @@ fn step_insn(
     requires ready { IsReady timing.now state.old.cache }
     requires insn { IsInsn insn }
     ensures ready { IsReady timing.now state.new.cache }
+    ensures limit { IfOk result (λ event. event.cycles ≤ 18000000) }
     ensures step { Answers (execute image.now timing.now (state_of state.old) insn) (state_of state.old) (state_of state.new) result }
 {
     let address = state.cpu.pc;
@@ -85,6 +87,7 @@ fn settle(
     requires { IsReady timing.now state.old.cache }
     ensures ready { IsReady timing.now state.new.cache }
     ensures state { state_of state.new ≡ settle timing.now address (state_of state.old) }
+    ensures limit { result.cycles ≤ 18000000 }
     ensures event { result ≡ event_at timing.now state.old.cache.sets address insn done }
 {
     let miss = !state.cache.fetch(timing.line_of(address));
