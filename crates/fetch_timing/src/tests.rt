@@ -42,18 +42,23 @@ fn object(
     value: &str,
 ) -> Result<String, AllocError> {
     let mut text = String::new(alloc);
-    let mut separator = "{";
     for (name, number) in NAMES.iter().zip(numbers) {
-        write!(text, "{separator}\"{name}\":")?;
+        text.push(if text.is_empty() { '{' } else { ',' })?;
+        write_name(&mut text, name)?;
         if *name == changed {
             text.push_str(value)?;
         } else {
             write!(text, "{number}")?;
         }
-        separator = ",";
     }
-    text.push_str("}")?;
+    text.push('}')?;
     Ok(text)
+}
+
+fn write_name(text: &mut String, name: &str) -> Result<(), AllocError> {
+    text.push('"')?;
+    text.push_str(name)?;
+    text.push_str("\":")
 }
 
 /// The timing of these numbers.
@@ -164,7 +169,8 @@ fn wants_each_name(rt: HostRuntime) -> Result<(), Fail> {
         let mut text = String::from_str(rt.alloc(), "{")?;
         for (other, number) in NAMES.iter().zip(&UNIT) {
             if other != name {
-                write!(text, "\"{other}\":{number},")?;
+                write_name(&mut text, other)?;
+                write!(text, "{number},")?;
             }
         }
         // In place of the name that is left out, one stands twice.
