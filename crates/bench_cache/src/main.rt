@@ -55,9 +55,12 @@ fn hits(cache: &mut LruCache, stream: &Stream, times: u32) -> u64 {
 fn main(rt: HostRuntime) -> anyhow::Result<()> {
     let alloc = rt.alloc();
     let mut words = env::args(&rt)?.skip(1);
-    let (Some(name), Some(sets), Some(ways), Some(times)) =
-        (words.next(), words.next(), words.next(), words.next())
-    else {
+    let (Some(name), Some(sets), Some(ways), Some(times)) = (
+        words.next(),
+        words.next(),
+        words.next(),
+        words.next(),
+    ) else {
         bail!("usage: bench_cache STREAM SETS WAYS TIMES");
     };
     let Ok(sets) = sets.parse::<u32>() else {

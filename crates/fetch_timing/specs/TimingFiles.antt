@@ -1,5 +1,5 @@
 -- Timing files: a JSON object with a number for each of 17 names.
-use Rattle.std.specs.Prelude.{ℕ, ◌==◌, ◌&&◌, Bool, if◌then◌else◌, nat_le, List, [], ◌∷◌, map, drop, slice_index, codes, Option, Some, None, option_map, option_and_then}
+use Rattle.std.specs.Prelude.{◌≡◌, ℕ, ◌==◌, ◌&&◌, Bool, true, if◌then◌else◌, nat_le, List, [], ◌∷◌, map, drop, slice_index, codes, Option, Some, None, option_map, option_and_then}
 use Rattle.std.specs.List.{list_all, list_any}
 use Rattle.std.specs.Str.{bytes_eq, is_utf8}
 use Rattle.serde_json.specs.Data.{Data, Members, no_members, member}
@@ -80,6 +80,17 @@ timing_by ns = record {
   register = slice_index ns 5;
   classes = drop 6 ns;
 }
+
+-- the numbers of a timing, in this order
+abbrev pub numbers_of : Timing → List ℕ
+numbers_of t = t.sets ∷ t.ways ∷ t.line ∷ t.miss ∷ t.skipped ∷ t.register ∷ t.classes
+
+-- one number for each name, and each one that its name may have
+abbrev pub AreAllowed : List Field → List ℕ → Type 0
+AreAllowed [] [] = Unit {0}
+AreAllowed [] (n ∷ ns) = ⊥
+AreAllowed (field ∷ rest) [] = ⊥
+AreAllowed (field ∷ rest) (n ∷ ns) = (field.allows n ≡ true) × AreAllowed rest ns
 
 -- an object with exactly these names
 abbrev pub timing_in : Data → Option Timing

@@ -1,9 +1,15 @@
-//! Laws of caches, as calls without a body.
+//! Laws of timings and caches, as calls without a body.
 
-ghost use Rattle.std.specs.Prelude.{◌≡◌, ℕ, if◌then◌else◌};
+ghost use Rattle.std.specs.Prelude.{◌≡◌, ◌↔◌, ℕ, length, if◌then◌else◌};
 ghost use Rattle.fetch_timing.specs.declared.timing.Timing.{Timing};
 ghost use Rattle.fetch_timing.specs.Caches.{Cache, IsCacheOf, after_fetch, cache_after, empty_cache, holds, lines_beside, penalty};
+ghost use Rattle.fetch_timing.specs.TimingFiles.{AreAllowed, fields, numbers_of};
 ghost use Rattle.fetch_timing.specs.Timings.{IsWithinLimits};
+
+/// The numbers that a timing file may have at its names are exactly those within the limits.
+pub fn file_limits_are_those_of_timings()
+    ensures { (t : Timing) → length t.classes ≡ 11 → (AreAllowed fields (numbers_of t) ↔ IsWithinLimits t) }
+{}
 
 /// The empty cache of a timing is a cache of that timing.
 pub fn empty_cache_is_a_cache()

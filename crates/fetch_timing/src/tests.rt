@@ -5,7 +5,8 @@ ghost use Rattle.fetch_timing.specs.Timings.{IsWithinLimits};
 
 use crate::{
     LruCache, Timing, TimingRefusal, empty_cache_is_a_cache, fetch_costs_what_the_timing_says,
-    fetch_keeps_a_cache, fetch_leaves_what_the_timing_says, read_timing,
+    fetch_keeps_a_cache, fetch_leaves_what_the_timing_says, file_limits_are_those_of_timings,
+    read_timing,
 };
 use arm_isa::decode;
 use std::alloc::{AllocError, Global};
@@ -569,6 +570,7 @@ fn fetches_find_the_lines_of_before(rt: HostRuntime) -> Result<(), Fail> {
 
 #[test]
 fn laws_are_calls() {
+    file_limits_are_those_of_timings();
     empty_cache_is_a_cache();
     fetch_keeps_a_cache();
     fetch_leaves_what_the_timing_says();
