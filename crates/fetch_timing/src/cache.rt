@@ -34,7 +34,6 @@ impl Model for LruCache {
 
 impl LruCache {
     /// The empty cache of a timing, which is within its limits. It takes all its room here.
-    #[tactic(auto, using(crate::proofs::Tabling::empty_table))]
     pub fn new(alloc: Global, timing: &Timing) -> Result<LruCache, AllocError>
         requires { IsWithinLimits timing.now }
         ensures { IfOk result (λ cache. cache ≡ empty_cache timing.now) }
