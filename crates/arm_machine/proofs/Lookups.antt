@@ -24,7 +24,7 @@ in_front true v x y = refl
 in_front false v x y = refl
 
 -- of two lists of entries the first that has the address counts
-find_split : (es fs : List (ℕ × ℕ)) (q : ℕ) → find nat_cmp q (es ++ fs) ≡ if_loaded (find nat_cmp q es) (find nat_cmp q fs)
+pub find_split : (es fs : List (ℕ × ℕ)) (q : ℕ) → find nat_cmp q (es ++ fs) ≡ if_loaded (find nat_cmp q es) (find nat_cmp q fs)
 find_split [] fs q = refl
 find_split (e ∷ es) fs q =
     ap (cond (eq_by_cmp nat_cmp q e.0) (Some e.1)) (find_split es fs q)
@@ -52,7 +52,7 @@ one_segment : (b : Bool) (segment : Segment) (q : ℕ) (others : Option Segment)
 one_segment true segment q others = sym (byte_in segment q)
 one_segment false segment q others = refl
 
-find_in_segments : (segments : List Segment) (q : ℕ) → find nat_cmp q (flat_map segment_entries segments) ≡ loaded_byte (loaded_in (list.find (covers q) segments) q)
+pub find_in_segments : (segments : List Segment) (q : ℕ) → find nat_cmp q (flat_map segment_entries segments) ≡ loaded_byte (loaded_in (list.find (covers q) segments) q)
 unfolding segment_entries
 find_in_segments [] q = refl
 find_in_segments (segment ∷ segments) q =

@@ -44,6 +44,11 @@ abbrev pub AreParameters : List RegisterValue → Type 0
 AreParameters [] = Unit {0}
 AreParameters (p ∷ values) = (p.register < 13) × AllByRecursion (λ q. (q.register == p.register) ≡ false) values × AreParameters values
 
+-- the value is a signed number of 32 bits: its word reads as it
+pub record ComesBack (p : RegisterValue) : Type 0 where
+  pub word : cast_unsigned w32 p.value < 2 ^ 32
+  pub back : signed_of (cast_unsigned w32 p.value) ≡ p.value
+
 -- the registers get these values, one after another
 abbrev pub with_values : List ℕ → List RegisterValue → List ℕ
 with_values registers [] = registers

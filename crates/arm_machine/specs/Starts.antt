@@ -1,5 +1,5 @@
 -- The states in which a function starts.
-use Rattle.std.specs.Prelude.{◌≡◌, ◌≢◌, ℕ, pos, ◌+◌, ◌-◌, ◌%◌, ◌^◌, ◌<◌, ◌≤◌, ◌+ℤ◌, neg_ℤ, ◌≤ℤ◌, Some, None, List, [], ◌∷◌, length, slice_index}
+use Rattle.std.specs.Prelude.{◌≡◌, ◌≢◌, ℕ, pos, ◌+◌, ◌-◌, ◌%◌, ◌^◌, ◌<◌, ◌≤◌, ◌-ℤ◌, ◌≤ℤ◌, Some, None, List, [], ◌∷◌, length, slice_index}
 use Rattle.std.specs.FinMap as map
 use Rattle.elf32_image.specs.Parts.{ImageValue}
 use Rattle.elf32_image.specs.Bytes.{byte_at, constant_byte_at}
@@ -23,7 +23,7 @@ pub record IsStart (image : ImageValue) (t : Timing) (entry stack : ℕ) (number
   pub params : HasNumbers s.cpu.registers numbers
   -- the stack pointer is a multiple of 4, with room for the stack below it and for arguments above
   pub aligned : slice_index s.cpu.registers 13 % 4 ≡ 0
-  pub room_below : (neg_ℤ (pos (2 ^ 31)) +ℤ pos stack) ≤ℤ signed_of (slice_index s.cpu.registers 13)
+  pub room_below : (pos stack -ℤ pos (2 ^ 31)) ≤ℤ signed_of (slice_index s.cpu.registers 13)
   pub room_above : signed_of (slice_index s.cpu.registers 13) ≤ℤ pos (2 ^ 31 - 65)
   -- no byte of the stack is loaded
   pub apart : (below : ℕ) → 1 ≤ below → below ≤ stack → byte_at image ((slice_index s.cpu.registers 13 + 2 ^ 32 - below) % 2 ^ 32) ≡ None

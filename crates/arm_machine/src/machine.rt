@@ -2,6 +2,8 @@
 
 ghost use Rattle.std.specs.Prelude.{◌≡◌, ◌≢◌, ◌≤◌, ◌<◌, ◌==◌, None, Some, IfOk, IfErr, slice_index};
 ghost use Rattle.fetch_timing.specs.Timings.{IsWithinLimits};
+ghost use Rattle.control_flow.specs.Points.{IsInCode};
+ghost use Rattle.arm_machine.specs.Starts.{IsStart};
 ghost use Rattle.arm_machine.specs.Starting.{AreParameters, bad_start, home, start_state};
 ghost use Rattle.arm_machine.specs.Steps.{step};
 ghost use Rattle.arm_machine.specs.Machines.{Makes};
@@ -67,6 +69,9 @@ impl<'a> Machine<'a> {
         requires registers { AreParameters values.now }
 
         ensures machine { IfOk result (λ m. m ≡ record { image = image.now; timing = timing.now; state = start_state image.now timing.now entry sp stack values.now }) }
+        // It is a start state of the function, where control stays in code.
+        ensures starts { IfOk result (λ m. IsInCode image.now entry → IsStart image.now timing.now entry stack values.now m.state) }
+
         ensures good { IfOk result (λ m. bad_start image.now sp stack ≡ None) }
         ensures refused { IfErr result (λ why. why ≢ StartRefusal.Memory → bad_start image.now sp stack ≡ Some why) }
     {

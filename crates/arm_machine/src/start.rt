@@ -1,10 +1,12 @@
 //! The state in which a run starts.
 
-ghost use Rattle.std.specs.Prelude.{◌≡◌, ◌<◌, ◌≤◌, IfOk, is_some};
+ghost use Rattle.std.specs.Prelude.{◌≡◌, ◌<◌, ◌≤◌, IfOk, is_some, replicate, []};
 ghost use Rattle.fetch_timing.specs.Timings.{IsWithinLimits};
-ghost use Rattle.fetch_timing.specs.Caches.{empty_cache};
+ghost use Rattle.fetch_timing.specs.Caches.{IsCache, empty_cache};
+ghost use Rattle.std.specs.List.{AllByRecursion};
+ghost use Rattle.std.specs.Int.{cast_unsigned, w32};
 ghost use Rattle.elf32_image.specs.Bytes.{byte_at};
-ghost use Rattle.arm_machine.specs.Starting.{AreParameters, bad_start, is_any_loaded, is_home_loaded, is_in_range, start_cpu, start_state};
+ghost use Rattle.arm_machine.specs.Starting.{AreParameters, ComesBack, bad_start, is_any_loaded, is_home_loaded, is_in_range, start_cpu, start_state};
 ghost use Rattle.arm_machine.specs.Machines.{state_of};
 
 use arm_cpu::Cpu;
@@ -12,7 +14,7 @@ use crate::memory::Memory;
 use crate::state::MachineState;
 use arm_isa::Flags;
 use elf32_image::{Image, Loaded};
-use fetch_timing::{LruCache, Timing};
+use fetch_timing::{LruCache, Timing, empty_cache_is_a_cache};
 use std::alloc::{AllocError, Global};
 use thiserror::Error;
 
@@ -123,9 +125,12 @@ pub(crate) fn start_state<'a>(
     requires stack { stack ≤ 1048576 }
     requires registers { AreParameters values.now }
     ensures cache { IfOk result (λ state. state.cache ≡ empty_cache timing.now) }
+    ensures own { IfOk result (λ state. IsCache timing.now (replicate timing.now.sets [])) }
+    ensures values { IfOk result (λ state. AllByRecursion ComesBack values.now) }
     ensures state { IfOk result (λ state. state_of state ≡ start_state image.now timing.now entry sp stack values.now) }
 {
     let cache = LruCache::new(alloc, timing)?;
+    empty_cache_is_a_cache();
     Ok(MachineState {
         cpu: start_cpu(entry, sp, values),
         memory: Memory::start(alloc, image, sp, stack),
@@ -137,11 +142,12 @@ pub(crate) fn start_state<'a>(
 /// The registers with which a run starts: the values, the stack pointer, the return address, and zeros.
 fn start_cpu(entry: u32, sp: u32, values: &[RegisterValue]) -> Cpu
     requires { AreParameters values.now }
-    ensures { result ≡ start_cpu entry sp values.now }
+    ensures cpu { result ≡ start_cpu entry sp values.now }
+    ensures values { AllByRecursion ComesBack values.now }
 {
     let mut registers = [0u32; 15];
     for each in values {
-        registers[each.register as usize] = each.value.cast_unsigned();
+        registers[each.register as usize] = word_of(*each);
     }
     registers[13] = sp;
     registers[14] = HOME;
@@ -155,4 +161,12 @@ fn start_cpu(entry: u32, sp: u32, values: &[RegisterValue]) -> Cpu
             v: false,
         },
     }
+}
+
+/// The word that stands for a number.
+fn word_of(each: RegisterValue) -> u32
+    ensures word { result ≡ cast_unsigned w32 each.value }
+    ensures back { ComesBack each }
+{
+    each.value.cast_unsigned()
 }

@@ -1,8 +1,9 @@
 -- The points of a function, and which may follow one another.
-use Rattle.std.specs.Prelude.{◌≡◌, ℕ, ℤ, zero, suc, ◌+◌, ◌-◌, ◌*◌, ◌%◌, ◌^◌, ◌==◌, ◌&&◌, ◌||◌, Bool, false, if◌then◌else◌, Contains, Option, Some, None, List, [], ◌∷◌, ◌++◌}
+use Rattle.std.specs.Prelude.{◌≡◌, ℕ, ℤ, zero, suc, ◌+◌, ◌-◌, ◌*◌, ◌%◌, ◌^◌, ◌==◌, ◌&&◌, ◌||◌, Bool, true, false, if◌then◌else◌, Contains, Option, Some, None, List, [], ◌∷◌, ◌++◌}
 use Rattle.std.specs.List.{list_any}
 use Rattle.std.specs.Int.{cast_unsigned, w32}
 use Rattle.elf32_image.specs.Parts.{ImageValue}
+use Rattle.elf32_image.specs.Bytes.{is_code}
 use Rattle.arm_isa.specs.declared.instruction.Insn.{Insn}
 use Rattle.arm_isa.specs.declared.instruction.Op.{Op}
 use Rattle.arm_isa.specs.declared.instruction.Op.TheVariants as op
@@ -117,3 +118,7 @@ IsCollectedIn image entry p (suc n) = (before : Point) × IsCollectedIn image en
 -- a point that control reaches from the entry
 abbrev pub IsCollected : ImageValue → ℕ → Point → Type 0
 IsCollected image entry p = (n : ℕ) × IsCollectedIn image entry p n
+
+-- at each point that control reaches from the entry there is code
+abbrev pub IsInCode : ImageValue → ℕ → Type 0
+IsInCode image entry = (p : Point) → IsCollected image entry p → is_code image p.address ≡ true
