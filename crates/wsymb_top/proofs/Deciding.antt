@@ -65,8 +65,8 @@ exit_writes (op.Compute code flags rn rd operand) plain exit =
     let to_pc = eqb-true rd 15 (second_test _ _ (first_test _ _ exit)) in
     subst (λ (c : ℕ). not (is_test c) && eqb 15 rd ≡ true) (sym is_mov)
     (subst (λ (r : ℕ). not (is_test 13) && eqb 15 r ≡ true) (sym to_pc) refl)
-exit_writes (op.Multiply add flags rd rn rs rm) plain exit = absurd (false≢true plain)
-exit_writes (op.Long signed add flags hi lo rs rm) plain exit = absurd (false≢true plain)
+exit_writes (op.Multiply add flags rd rn rs rm) plain exit = absurd (false≢true exit)
+exit_writes (op.Long signed add flags hi lo rs rm) plain exit = absurd (false≢true exit)
 exit_writes (op.Word load byte index up rn rd offset) plain exit = absurd (false≢true plain)
 exit_writes (op.Half load kind index up rn rd offset) plain exit = absurd (false≢true plain)
 exit_writes (op.Many load before up back rn list) plain exit = absurd (false≢true plain)

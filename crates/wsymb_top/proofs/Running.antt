@@ -1,5 +1,5 @@
 -- A returning run along straight code costs no more than its instructions and a miss for each change of line.
-use Rattle.std.proofs.Common.{◌≡◌, ◌≢◌, ℕ, zero, suc, ◌+◌, ◌*◌, ◌%◌, ◌<◌, ◌≤◌, ◌&&◌, ◌||◌, not, Bool, true, false, IsTrue, cond, lit<, inl, inr, Option, Some, None, List, [], ◌∷◌, length, take, eqb, slice_set, slice_index, sum_by, refl, sym, ap, ◌∙◌, subst, arith, ◌^◌}
+use Rattle.std.proofs.Common.{◌≡◌, ◌≢◌, ℕ, zero, suc, ◌+◌, ◌*◌, ◌%◌, ◌<◌, ◌≤◌, ◌&&◌, ◌||◌, not, Bool, true, false, IsTrue, cond, lit<, inl, inr, Option, Some, None, Result, Ok, Err, List, [], ◌∷◌, length, take, eqb, slice_set, slice_index, sum_by, refl, sym, ap, ◌∙◌, subst, arith, ◌^◌}
 use Rattle.std.proofs.lemmas.Bool.Decides.{eqb_tells}
 use Rattle.std.proofs.Math.Nat.{one-le-pow}
 use Rattle.std.proofs.lemmas.Bool.{eqb-true, eq-eqb, false≢true}
@@ -23,11 +23,17 @@ use Rattle.fetch_timing.specs.Timings.{cost_of, point_cost, IsWithinLimits}
 use Rattle.fetch_timing.specs.Caches.{after_fetch, fetched, holds, line_of, lines_at, penalty, without}
 use Rattle.control_flow.specs.Instructions.{instruction_at}
 use Rattle.control_flow.specs.Points.{next_address}
-use Rattle.arm_machine.specs.declared.stops.Stop.TheVariants as stop
-use Rattle.arm_machine.specs.States.{State, Effect, next_pc, read}
-use Rattle.arm_machine.specs.States.Effect.{Goes, Stops}
-use Rattle.arm_machine.specs.Effects.{computed, effect, jumps, operand_carry, operand_value, writes, with_flags}
-use Rattle.arm_machine.specs.declared.sums.Sum.{Sum}
+use Rattle.arm_cpu.specs.declared.stops.Stop.TheVariants as stop
+use Rattle.arm_cpu.specs.declared.cpu.Cpu.{Cpu}
+use Rattle.arm_cpu.specs.declared.stops.Stop.{Stop}
+use Rattle.arm_cpu.specs.declared.sums.Sum.{Sum}
+use Rattle.arm_cpu.specs.Registers.{advanced, jumped, next_pc, read, with_register, written}
+use Rattle.arm_cpu.specs.Shifts.{operand_carry, operand_value}
+use Rattle.arm_cpu.specs.Sums.{computed, with_flags}
+use Rattle.arm_cpu.specs.Products.{multiplies, multiplies_long}
+use Rattle.arm_machine.specs.States.{State}
+use Rattle.arm_machine.specs.Transfers.{with_cpu}
+use Rattle.arm_machine.specs.Effects.{effect}
 use Rattle.arm_machine.specs.Steps.{Outcome, charge, decode_at, outcome_of, settle, step}
 use Rattle.arm_machine.specs.Runs.{IfNext, Returns}
 use Rattle.wsym_terms.specs.LineUses.{is_last, lines_used}
@@ -66,17 +72,16 @@ passes_always : (condition : ℕ) (flags : Flags) → eqb condition 14 ≡ true 
 passes_always condition flags always = subst (λ (k : ℕ). condition_passes k flags ≡ true) (sym (eqb-true condition 14 always)) refl
 
 -- the step of an instruction whose condition always passes
-step_there : (image : ImageValue) (t : Timing) (s : State) (insn : Insn) → instruction_at image s.pc ≡ Some insn → eqb insn.cond 14 ≡ true → step image t s ≡ charge t s insn true (effect s insn.op)
+step_there : (image : ImageValue) (t : Timing) (s : State) (insn : Insn) → instruction_at image s.cpu.pc ≡ Some insn → eqb insn.cond 14 ≡ true → step image t s ≡ charge t s insn true (effect image s insn.op)
 step_there image t s insn found always =
-    chosen (is_code image s.pc) (decode_at t s (instruction_at image s.pc)) _ (code_there image s.pc insn found)
-    ∙ ap (decode_at t s) found
-    ∙ ap (λ (done : Bool). charge t s insn done (outcome_of s insn done)) (passes_always insn.cond s.flags always)
+    chosen (is_code image s.cpu.pc) (decode_at image t s (instruction_at image s.cpu.pc)) _ (code_there image s.cpu.pc insn found)
+    ∙ ap (decode_at image t s) found
+    ∙ ap (λ (done : Bool). charge t s insn done (outcome_of image s insn done)) (passes_always insn.cond s.cpu.flags always)
 
--- What an instruction that goes on does: the next one follows, with register 14 and the cache as they were.
-pub record Follows (s next : State) : Type 0 where
-  pub pc : next.pc ≡ next_pc s
-  pub link : slice_index next.registers 14 ≡ slice_index s.registers 14
-  pub sets : next.sets ≡ s.sets
+-- What an instruction that goes on does to the registers: the next one follows, with register 14 as it was.
+pub record Follows (cpu next : Cpu) : Type 0 where
+  pub pc : next.pc ≡ next_pc cpu
+  pub link : slice_index next.registers 14 ≡ slice_index cpu.registers 14
 
 other_register : (r k : ℕ) → eqb k r ≡ false → r ≢ k
 other_register r k differ same = absurd (false≢true (sym differ ∙ eq-eqb k r (sym same)))
@@ -84,39 +89,51 @@ other_register r k differ same = absurd (false≢true (sym differ ∙ eq-eqb k r
 pub differs : (a b : ℕ) → a ≢ b → eqb a b ≡ false
 differs a b apart = elim (eqb_tells a b) [ inl same ↦ absurd (apart same.1) | inr other ↦ other.0 ]
 
-neither_way : (x y : Bool) → x ≡ false → not x && y ≡ false → y ≡ false
-neither_way true y off h = absurd (false≢true (sym off))
-neither_way false y off h = h
+-- a register other than 14 that gets a value
+link_stays : (registers : List ℕ) (rd value : ℕ) → eqb 14 rd ≡ false → slice_index (slice_set registers rd value) 14 ≡ slice_index registers 14
+link_stays registers rd value other = get_or-set_other registers rd 14 value 0 (λ e. other_register rd 14 other (sym e))
 
-settled_follows : (s : State) (test : Bool) (rd value : ℕ) → not test && eqb 14 rd ≡ false → not test && eqb 15 rd ≡ false → (next : State) × (cond test (Goes (record s { pc = next_pc s })) (writes s rd value) ≡ Goes next) × Follows s next
-settled_follows s true rd value link jump = (record s { pc = next_pc s }, refl, record { pc = refl; link = refl; sets = refl })
-settled_follows s false rd value link jump =
+settled_follows : (cpu : Cpu) (test : Bool) (rd value : ℕ) → not test && eqb 14 rd ≡ false → not test && eqb 15 rd ≡ false → (next : Cpu) × (cond {A = Result Cpu Stop} test (Ok (advanced cpu)) (written cpu rd value) ≡ Ok next) × Follows cpu next
+settled_follows cpu true rd value link jump = (advanced cpu, refl, record { pc = refl; link = refl })
+settled_follows cpu false rd value link jump =
     let not_pc : eqb rd 15 ≡ false = differs rd 15 (other_register rd 15 jump) in (
-      record s { registers = slice_set s.registers rd value; pc = next_pc s },
-      refused (eqb rd 15) (jumps s value) _ not_pc,
-      record { pc = refl; link = get_or-set_other s.registers rd 14 value 0 (λ e. other_register rd 14 link (sym e)); sets = refl },
+      advanced (with_register cpu rd value),
+      refused (eqb rd 15) (jumped cpu value) _ not_pc,
+      record { pc = refl; link = link_stays cpu.registers rd value link },
     )
 
 -- flags that are set change nothing else
-flagged : (sets : Bool) (s next : State) (sum : Sum) → Follows (with_flags sets s sum) next → Follows s next
-flagged sets s next sum follows = record { pc = follows.pc; link = follows.link; sets = follows.sets }
+flagged : (sets : Bool) (cpu next : Cpu) (sum : Sum) → Follows (with_flags sets cpu sum) next → Follows cpu next
+flagged sets cpu next sum follows = record { pc = follows.pc; link = follows.link }
 
-plain_effect_op : (s : State) (o : Op) → is_plain o ≡ true → op_writes o 14 ≡ false → op_writes o 15 ≡ false → (next : State) × (effect s o ≡ Goes next) × Follows s next
-plain_effect_op s (op.Compute code flags rn rd operand) plain link jump =
-    let sum = computed code s.flags (operand_carry s operand) (read s rn) (operand_value s operand) in
-    let found = settled_follows (with_flags flags s sum) (is_test code) rd sum.value link jump in
-    (found.0, found.1, flagged flags s found.0 sum found.2)
-plain_effect_op s (op.Multiply add flags rd rn rs rm) plain link jump = absurd (false≢true plain)
-plain_effect_op s (op.Long signed add flags hi lo rs rm) plain link jump = absurd (false≢true plain)
-plain_effect_op s (op.Word load byte index up rn rd offset) plain link jump = absurd (false≢true plain)
-plain_effect_op s (op.Half load kind index up rn rd offset) plain link jump = absurd (false≢true plain)
-plain_effect_op s (op.Many load before up back rn list) plain link jump = absurd (false≢true plain)
-plain_effect_op s (op.Branch linked words) plain link jump = absurd (false≢true plain)
-plain_effect_op s (op.Exchange rm) plain link jump = absurd (false≢true plain)
+neither : (x y : Bool) → x || y ≡ false → (x ≡ false) × (y ≡ false)
+neither true y off = absurd (false≢true (sym off))
+neither false y off = (refl, off)
 
-plain_effect : (s : State) (insn : Insn) → IsTrue (goes_on insn) → (next : State) × (effect s insn.op ≡ Goes next) × Follows s next
-plain_effect s insn on =
-    plain_effect_op s insn.op
+-- what such an instruction makes of a state
+abbrev Passes : ImageValue → State → Op → Type 0
+Passes image s o = (next : Cpu) × (effect image s o ≡ Ok (record s { cpu = next })) × Follows s.cpu next
+
+plain_effect_op : (image : ImageValue) (s : State) (o : Op) → is_plain o ≡ true → op_writes o 14 ≡ false → op_writes o 15 ≡ false → Passes image s o
+plain_effect_op image s (op.Compute code flags rn rd operand) plain link jump =
+    let sum = computed code s.cpu.flags (operand_carry s.cpu operand) (read s.cpu rn) (operand_value s.cpu operand) in
+    let found = settled_follows (with_flags flags s.cpu sum) (is_test code) rd sum.value link jump in
+    (found.0, ap (with_cpu s) found.1, flagged flags s.cpu found.0 sum found.2)
+plain_effect_op image s (op.Multiply add flags rd rn rs rm) plain link jump =
+    (multiplies s.cpu add flags rd rn rs rm, refl, record { pc = refl; link = link_stays s.cpu.registers rd _ link })
+plain_effect_op image s (op.Long signed add flags hi lo rs rm) plain link jump =
+    let both = neither (eqb 14 hi) (eqb 14 lo) link in
+    let next = multiplies_long s.cpu signed add flags hi lo rs rm in
+    (next, refl, record { pc = refl; link = link_stays _ lo _ both.1 ∙ link_stays s.cpu.registers hi _ both.0 })
+plain_effect_op image s (op.Word load byte index up rn rd offset) plain link jump = absurd (false≢true plain)
+plain_effect_op image s (op.Half load kind index up rn rd offset) plain link jump = absurd (false≢true plain)
+plain_effect_op image s (op.Many load before up back rn list) plain link jump = absurd (false≢true plain)
+plain_effect_op image s (op.Branch linked words) plain link jump = absurd (false≢true plain)
+plain_effect_op image s (op.Exchange rm) plain link jump = absurd (false≢true plain)
+
+plain_effect : (image : ImageValue) (s : State) (insn : Insn) → IsTrue (goes_on insn) → Passes image s insn.op
+plain_effect image s insn on =
+    plain_effect_op image s insn.op
     (second_test _ _ (first_test _ _ (first_test _ _ (first_test _ _ on))))
     (not_true _ (second_test _ _ (first_test _ _ on)))
     (not_true _ (second_test _ _ on))
@@ -166,8 +183,8 @@ fresh_after t sets line limits all =
 
 -- what a state has when the run is at an address
 pub record IsAt (t : Timing) (a home : ℕ) (last : Option ℕ) (s : State) : Type 0 where
-  pub pc : s.pc ≡ a
-  pub link : slice_index s.registers 14 ≡ home
+  pub pc : s.cpu.pc ≡ a
+  pub link : slice_index s.cpu.registers 14 ≡ home
   pub word : home < 2 ^ 32
   pub all : length s.sets ≡ t.sets
   pub fresh : IsFresh t s.sets last
@@ -184,17 +201,16 @@ lines_more : (t : Timing) (last : Option ℕ) (a : ℕ) (addresses : List ℕ) �
 lines_more t last a addresses = one_line (is_last last (line_of t a)) t.miss (line_of t a) (lines_used (geometry_of t) (Some (line_of t a)) addresses)
 
 -- the run stands at the next instruction, with its line in the cache
-next_at : (t : Timing) (a home : ℕ) (last : Option ℕ) (s next : State) → IsWithinLimits t → IsAt t a home last s → Follows s next → IsAt t (next_address a) home (Some (line_of t a)) (settle t s.pc next)
+next_at : (t : Timing) (a home : ℕ) (last : Option ℕ) (s : State) (next : Cpu) → IsWithinLimits t → IsAt t a home last s → Follows s.cpu next → IsAt t (next_address a) home (Some (line_of t a)) (settle t s.cpu.pc (record s { cpu = next }))
 next_at t a home last s next limits at follows =
-    let all : length next.sets ≡ t.sets = ap (λ (sets : List (List ℕ)). length sets) follows.sets ∙ at.all in
     record {
       pc = follows.pc ∙ ap next_address at.pc;
       link = follows.link ∙ at.link;
       word = at.word;
-      all = length-set next.sets (line_of t s.pc % t.sets) (fetched t.ways (line_of t s.pc) (lines_at next.sets (line_of t s.pc % t.sets))) ∙ all;
+      all = length-set s.sets (line_of t s.cpu.pc % t.sets) (fetched t.ways (line_of t s.cpu.pc) (lines_at s.sets (line_of t s.cpu.pc % t.sets))) ∙ at.all;
       fresh =
-          subst (λ (p : ℕ). IsFresh t (after_fetch t next.sets (line_of t s.pc)) (Some (line_of t p))) at.pc
-          (fresh_after t next.sets (line_of t s.pc) limits all);
+          subst (λ (p : ℕ). IsFresh t (after_fetch t s.sets (line_of t s.cpu.pc)) (Some (line_of t p))) at.pc
+          (fresh_after t s.sets (line_of t s.cpu.pc) limits at.all);
     }
 
 -- what is still to come of a run behind a step
@@ -202,52 +218,56 @@ abbrev IsRest : ImageValue → Timing → ℕ → ℕ → ℕ → State → ℕ 
 IsRest image t home n c next spent = (rest : ℕ) × (c ≡ spent + rest) × Returns image t home next n rest
 
 -- a run that stands at its return address has returned
-home_already : (image : ImageValue) (t : Timing) (home : ℕ) (s : State) (n c : ℕ) → s.pc ≡ home → Returns image t home s n c → c ≡ 0
+home_already : (image : ImageValue) (t : Timing) (home : ℕ) (s : State) (n c : ℕ) → s.cpu.pc ≡ home → Returns image t home s n c → c ≡ 0
 home_already image t home s zero c there returns = returns.1
 home_already image t home s (suc n) c there returns = absurd (returns.0 there)
 
--- MOV r15,r14 goes to register 14
-mov_exit : (s : State) (code : ℕ) (flags : Bool) (rn rd rm amount : ℕ) → slice_index s.registers 14 < 2 ^ 32 → code ≡ 13 → flags ≡ false → rd ≡ 15 → rm ≡ 14 → amount ≡ 0 → effect s (op.Compute code flags rn rd (operand.Shifted rm (shift.Lsl amount))) ≡ jumps s (slice_index s.registers 14)
-mov_exit s code flags rn rd rm amount small is_mov no_flags to_pc of_link unshifted =
-    ap (λ (c : ℕ). effect s (op.Compute c flags rn rd (operand.Shifted rm (shift.Lsl amount)))) is_mov
-    ∙ ap (λ (f : Bool). effect s (op.Compute 13 f rn rd (operand.Shifted rm (shift.Lsl amount)))) no_flags
-    ∙ ap (λ (r : ℕ). effect s (op.Compute 13 false rn r (operand.Shifted rm (shift.Lsl amount)))) to_pc
-    ∙ ap (λ (r : ℕ). effect s (op.Compute 13 false rn 15 (operand.Shifted r (shift.Lsl amount)))) of_link
-    ∙ ap (λ (n : ℕ). effect s (op.Compute 13 false rn 15 (operand.Shifted 14 (shift.Lsl n)))) unshifted
-    ∙ ap (λ (value : ℕ). jumps s value) (let e : slice_index s.registers 14 * 1 % 2 ^ 32 ≡ slice_index s.registers 14 = omega arith in e)
+-- what a jump to register 14 makes of a state
+abbrev GoesHome : ImageValue → State → Op → Type 0
+GoesHome image s o = effect image s o ≡ with_cpu s (jumped s.cpu (slice_index s.cpu.registers 14))
 
-compute_exit : (s : State) (code : ℕ) (flags : Bool) (rn rd : ℕ) (operand : Operand) → slice_index s.registers 14 < 2 ^ 32 → is_exit (op.Compute code flags rn rd operand) ≡ true → effect s (op.Compute code flags rn rd operand) ≡ jumps s (slice_index s.registers 14)
-compute_exit s code flags rn rd (operand.Value value turned) small exit = absurd (false≢true (second_test ((eqb code 13 && not flags) && eqb rd 15) false exit))
-compute_exit s code flags rn rd (operand.ByRegister rm kind rs) small exit = absurd (false≢true (second_test ((eqb code 13 && not flags) && eqb rd 15) false exit))
-compute_exit s code flags rn rd (operand.Shifted rm (shift.Lsr amount)) small exit = absurd (false≢true (second_test ((eqb code 13 && not flags) && eqb rd 15) false exit))
-compute_exit s code flags rn rd (operand.Shifted rm (shift.Asr amount)) small exit = absurd (false≢true (second_test ((eqb code 13 && not flags) && eqb rd 15) false exit))
-compute_exit s code flags rn rd (operand.Shifted rm (shift.Ror amount)) small exit = absurd (false≢true (second_test ((eqb code 13 && not flags) && eqb rd 15) false exit))
-compute_exit s code flags rn rd (operand.Shifted rm shift.Rrx) small exit = absurd (false≢true (second_test ((eqb code 13 && not flags) && eqb rd 15) false exit))
-compute_exit s code flags rn rd (operand.Shifted rm (shift.Lsl amount)) small exit =
+-- MOV r15,r14 goes to register 14
+mov_exit : (image : ImageValue) (s : State) (code : ℕ) (flags : Bool) (rn rd rm amount : ℕ) → slice_index s.cpu.registers 14 < 2 ^ 32 → code ≡ 13 → flags ≡ false → rd ≡ 15 → rm ≡ 14 → amount ≡ 0 → GoesHome image s (op.Compute code flags rn rd (operand.Shifted rm (shift.Lsl amount)))
+mov_exit image s code flags rn rd rm amount small is_mov no_flags to_pc of_link unshifted =
+    ap (λ (c : ℕ). effect image s (op.Compute c flags rn rd (operand.Shifted rm (shift.Lsl amount)))) is_mov
+    ∙ ap (λ (f : Bool). effect image s (op.Compute 13 f rn rd (operand.Shifted rm (shift.Lsl amount)))) no_flags
+    ∙ ap (λ (r : ℕ). effect image s (op.Compute 13 false rn r (operand.Shifted rm (shift.Lsl amount)))) to_pc
+    ∙ ap (λ (r : ℕ). effect image s (op.Compute 13 false rn 15 (operand.Shifted r (shift.Lsl amount)))) of_link
+    ∙ ap (λ (n : ℕ). effect image s (op.Compute 13 false rn 15 (operand.Shifted 14 (shift.Lsl n)))) unshifted
+    ∙ ap (λ (value : ℕ). with_cpu s (jumped s.cpu value)) (let e : slice_index s.cpu.registers 14 * 1 % 2 ^ 32 ≡ slice_index s.cpu.registers 14 = omega arith in e)
+
+compute_exit : (image : ImageValue) (s : State) (code : ℕ) (flags : Bool) (rn rd : ℕ) (operand : Operand) → slice_index s.cpu.registers 14 < 2 ^ 32 → is_exit (op.Compute code flags rn rd operand) ≡ true → GoesHome image s (op.Compute code flags rn rd operand)
+compute_exit image s code flags rn rd (operand.Value value turned) small exit = absurd (false≢true (second_test ((eqb code 13 && not flags) && eqb rd 15) false exit))
+compute_exit image s code flags rn rd (operand.ByRegister rm kind rs) small exit = absurd (false≢true (second_test ((eqb code 13 && not flags) && eqb rd 15) false exit))
+compute_exit image s code flags rn rd (operand.Shifted rm (shift.Lsr amount)) small exit = absurd (false≢true (second_test ((eqb code 13 && not flags) && eqb rd 15) false exit))
+compute_exit image s code flags rn rd (operand.Shifted rm (shift.Asr amount)) small exit = absurd (false≢true (second_test ((eqb code 13 && not flags) && eqb rd 15) false exit))
+compute_exit image s code flags rn rd (operand.Shifted rm (shift.Ror amount)) small exit = absurd (false≢true (second_test ((eqb code 13 && not flags) && eqb rd 15) false exit))
+compute_exit image s code flags rn rd (operand.Shifted rm shift.Rrx) small exit = absurd (false≢true (second_test ((eqb code 13 && not flags) && eqb rd 15) false exit))
+compute_exit image s code flags rn rd (operand.Shifted rm (shift.Lsl amount)) small exit =
     let head : (eqb code 13 && not flags) && eqb rd 15 ≡ true = first_test ((eqb code 13 && not flags) && eqb rd 15) (eqb rm 14 && eqb amount 0) exit in
     let link : eqb rm 14 && eqb amount 0 ≡ true = second_test ((eqb code 13 && not flags) && eqb rd 15) (eqb rm 14 && eqb amount 0) exit in
     let front : eqb code 13 && not flags ≡ true = first_test (eqb code 13 && not flags) (eqb rd 15) head in
-    mov_exit s code flags rn rd rm amount small
+    mov_exit image s code flags rn rd rm amount small
     (eqb-true code 13 (first_test (eqb code 13) (not flags) front))
     (not_true flags (second_test (eqb code 13) (not flags) front))
     (eqb-true rd 15 (second_test (eqb code 13 && not flags) (eqb rd 15) head))
     (eqb-true rm 14 (first_test (eqb rm 14) (eqb amount 0) link))
     (eqb-true amount 0 (second_test (eqb rm 14) (eqb amount 0) link))
 
-exit_effect : (s : State) (o : Op) → slice_index s.registers 14 < 2 ^ 32 → is_exit o ≡ true → effect s o ≡ jumps s (slice_index s.registers 14)
-exit_effect s (op.Compute code flags rn rd operand) small exit = compute_exit s code flags rn rd operand small exit
-exit_effect s (op.Multiply add flags rd rn rs rm) small exit = absurd (false≢true exit)
-exit_effect s (op.Long signed add flags hi lo rs rm) small exit = absurd (false≢true exit)
-exit_effect s (op.Word load byte index up rn rd offset) small exit = absurd (false≢true exit)
-exit_effect s (op.Half load kind index up rn rd offset) small exit = absurd (false≢true exit)
-exit_effect s (op.Many load before up back rn list) small exit = absurd (false≢true exit)
-exit_effect s (op.Branch linked words) small exit = absurd (false≢true exit)
-exit_effect s (op.Exchange rm) small exit = ap (λ (r : ℕ). jumps s (read s r)) (eqb-true rm 14 exit)
+exit_effect : (image : ImageValue) (s : State) (o : Op) → slice_index s.cpu.registers 14 < 2 ^ 32 → is_exit o ≡ true → GoesHome image s o
+exit_effect image s (op.Compute code flags rn rd operand) small exit = compute_exit image s code flags rn rd operand small exit
+exit_effect image s (op.Multiply add flags rd rn rs rm) small exit = absurd (false≢true exit)
+exit_effect image s (op.Long signed add flags hi lo rs rm) small exit = absurd (false≢true exit)
+exit_effect image s (op.Word load byte index up rn rd offset) small exit = absurd (false≢true exit)
+exit_effect image s (op.Half load kind index up rn rd offset) small exit = absurd (false≢true exit)
+exit_effect image s (op.Many load before up back rn list) small exit = absurd (false≢true exit)
+exit_effect image s (op.Branch linked words) small exit = absurd (false≢true exit)
+exit_effect image s (op.Exchange rm) small exit = ap (λ (r : ℕ). with_cpu s (jumped s.cpu (read s.cpu r))) (eqb-true rm 14 exit)
 
 -- a jump that doesn't stop
-jumped : (image : ImageValue) (t : Timing) (home : ℕ) (s : State) (insn : Insn) (n c value : ℕ) (test : Bool) → IfNext (charge t s insn true (cond test (Goes (record s { pc = value })) (Stops stop.Leaves))) (IsRest image t home n c) → IsRest image t home n c (settle t s.pc (record s { pc = value })) (cost_of t insn true + penalty t s.sets (line_of t s.pc))
-jumped image t home s insn n c value true run = run
-jumped image t home s insn n c value false run = absurd run
+landed : (image : ImageValue) (t : Timing) (home : ℕ) (s : State) (insn : Insn) (n c value : ℕ) (test : Bool) → IfNext (charge t s insn true (with_cpu s (cond test (Ok (record s.cpu { pc = value })) (Err stop.Leaves)))) (IsRest image t home n c) → IsRest image t home n c (settle t s.cpu.pc (record s { cpu = record s.cpu { pc = value } })) (cost_of t insn true + penalty t s.sets (line_of t s.cpu.pc))
+landed image t home s insn n c value true run = run
+landed image t home s insn n c value false run = absurd run
 
 regrouped : (whole cost rest lines first others : ℕ) → whole ≡ cost + rest → first + others ≡ lines → whole + lines ≡ (cost + first) + (rest + others)
 regrouped whole cost rest lines first others sums used = omega arith
@@ -262,15 +282,15 @@ both_within : (cost most penalty limit : ℕ) → cost ≡ most → penalty ≤ 
 both_within cost most penalty limit same small = omega arith
 
 -- what one step costs at most
-spent_within : (t : Timing) (home : ℕ) (insn : Insn) (a : ℕ) (last : Option ℕ) (s : State) → eqb insn.cond 14 ≡ true → IsAt t a home last s → cost_of t insn true + penalty t s.sets (line_of t s.pc) ≤ point_cost t insn + cond (is_last last (line_of t a)) 0 t.miss
+spent_within : (t : Timing) (home : ℕ) (insn : Insn) (a : ℕ) (last : Option ℕ) (s : State) → eqb insn.cond 14 ≡ true → IsAt t a home last s → cost_of t insn true + penalty t s.sets (line_of t s.cpu.pc) ≤ point_cost t insn + cond (is_last last (line_of t a)) 0 t.miss
 spent_within t home insn a last s always at =
-    both_within (cost_of t insn true) (point_cost t insn) (penalty t s.sets (line_of t s.pc)) (cond (is_last last (line_of t a)) 0 t.miss) (cost_on t insn always)
+    both_within (cost_of t insn true) (point_cost t insn) (penalty t s.sets (line_of t s.cpu.pc)) (cond (is_last last (line_of t a)) 0 t.miss) (cost_on t insn always)
     (subst (λ (p : ℕ). penalty t s.sets (line_of t p) ≤ cond (is_last last (line_of t a)) 0 t.miss) (sym at.pc) (penalty_within t s.sets last (line_of t a) at.fresh))
 
 total_within : (c spent rest first others whole : ℕ) → c ≡ spent + rest → spent ≤ first → rest ≤ others → whole ≡ first + others → c ≤ whole
 total_within c spent rest first others whole sum head tail all = omega arith
 
-stepped : (image : ImageValue) (t : Timing) (home a : ℕ) (last : Option ℕ) (s : State) (insn : Insn) → instruction_at image a ≡ Some insn → eqb insn.cond 14 ≡ true → IsAt t a home last s → step image t s ≡ charge t s insn true (effect s insn.op)
+stepped : (image : ImageValue) (t : Timing) (home a : ℕ) (last : Option ℕ) (s : State) (insn : Insn) → instruction_at image a ≡ Some insn → eqb insn.cond 14 ≡ true → IsAt t a home last s → step image t s ≡ charge t s insn true (effect image s insn.op)
 stepped image t home a last s insn found always at =
     step_there image t s insn (subst (λ (p : ℕ). instruction_at image p ≡ Some insn) (sym at.pc) found) always
 
@@ -279,14 +299,14 @@ last_within : (image : ImageValue) (t : Timing) (home : ℕ) (insn : Insn) (a : 
 last_within image t home insn a last s n c found end at run =
     let always : eqb insn.cond 14 ≡ true = first_test (eqb insn.cond 14) (is_exit insn.op) end in
     let exit : is_exit insn.op ≡ true = second_test (eqb insn.cond 14) (is_exit insn.op) end in
-    let small : slice_index s.registers 14 < 2 ^ 32 = subst (λ (w : ℕ). w < 2 ^ 32) (sym at.link) at.word in
-    let value = slice_index s.registers 14 in
-    let spent = cost_of t insn true + penalty t s.sets (line_of t s.pc) in
+    let small : slice_index s.cpu.registers 14 < 2 ^ 32 = subst (λ (w : ℕ). w < 2 ^ 32) (sym at.link) at.word in
+    let value = slice_index s.cpu.registers 14 in
+    let spent = cost_of t insn true + penalty t s.sets (line_of t s.cpu.pc) in
     let others = cycles_of t (Some (line_of t a)) (next_address a) [] in
-    let way = stepped image t home a last s insn found always at ∙ ap (λ (e : Effect). charge t s insn true e) (exit_effect s insn.op small exit) in
-    let rest : IsRest image t home n c (settle t s.pc (record s { pc = value })) spent =
-    jumped image t home s insn n c value (eqb (value % 4) 0) (subst (λ (o : Outcome). IfNext o (IsRest image t home n c)) way run) in
-    let none : rest.0 ≡ 0 = home_already image t home (settle t s.pc (record s { pc = value })) n rest.0 at.link rest.2 in
+    let way = stepped image t home a last s insn found always at ∙ ap (λ (e : Result State Stop). charge t s insn true e) (exit_effect image s insn.op small exit) in
+    let rest : IsRest image t home n c (settle t s.cpu.pc (record s { cpu = record s.cpu { pc = value } })) spent =
+    landed image t home s insn n c value (eqb (value % 4) 0) (subst (λ (o : Outcome). IfNext o (IsRest image t home n c)) way run) in
+    let none : rest.0 ≡ 0 = home_already image t home (settle t s.cpu.pc (record s { cpu = record s.cpu { pc = value } })) n rest.0 at.link rest.2 in
     let nothing : rest.0 ≤ others = omega (arith, none) in
     total_within c spent rest.0 (point_cost t insn + cond (is_last last (line_of t a)) 0 t.miss) others (cycles_of t last a (insn ∷ [])) rest.1
     (spent_within t home insn a last s always at) nothing (cycles_more t last a insn [])
@@ -295,12 +315,12 @@ last_within image t home insn a last s n c found end at run =
 first_within : (image : ImageValue) (t : Timing) (home : ℕ) (insn : Insn) (insns : List Insn) (a : ℕ) (last : Option ℕ) (s : State) (n c : ℕ) → IsWithinLimits t → instruction_at image a ≡ Some insn → IsTrue (goes_on insn) → IsAt t a home last s → ((next : State) (rest : ℕ) → IsAt t (next_address a) home (Some (line_of t a)) next → Returns image t home next n rest → rest ≤ cycles_of t (Some (line_of t a)) (next_address a) insns) → IfNext (step image t s) (IsRest image t home n c) → c ≤ cycles_of t last a (insn ∷ insns)
 first_within image t home insn insns a last s n c limits found on at later run =
     let always = always_on insn on in
-    let done = plain_effect s insn on in
-    let way = stepped image t home a last s insn found always at ∙ ap (λ (e : Effect). charge t s insn true e) done.1 in
-    let rest : IsRest image t home n c (settle t s.pc done.0) (cost_of t insn true + penalty t s.sets (line_of t s.pc)) = subst (λ (o : Outcome). IfNext o (IsRest image t home n c)) way run in
-    total_within c (cost_of t insn true + penalty t s.sets (line_of t s.pc)) rest.0 _ _ (cycles_of t last a (insn ∷ insns)) rest.1
+    let done = plain_effect image s insn on in
+    let way = stepped image t home a last s insn found always at ∙ ap (λ (e : Result State Stop). charge t s insn true e) done.1 in
+    let rest : IsRest image t home n c (settle t s.cpu.pc (record s { cpu = done.0 })) (cost_of t insn true + penalty t s.sets (line_of t s.cpu.pc)) = subst (λ (o : Outcome). IfNext o (IsRest image t home n c)) way run in
+    total_within c (cost_of t insn true + penalty t s.sets (line_of t s.cpu.pc)) rest.0 _ _ (cycles_of t last a (insn ∷ insns)) rest.1
     (spent_within t home insn a last s always at)
-    (later (settle t s.pc done.0) rest.0 (next_at t a home last s done.0 limits at done.2) rest.2)
+    (later (settle t s.cpu.pc (record s { cpu = done.0 })) rest.0 (next_at t a home last s done.0 limits at done.2) rest.2)
     (cycles_more t last a insn insns)
 
 -- a run that returns along straight code costs no more than its instructions and a miss for each line that they use

@@ -83,7 +83,7 @@ same_cycles sum miss without with lines all = ap (λ (n : ℕ). sum + miss * n) 
 -- no returning run spends more
 pub bound : (image : ImageValue) (t : Timing) (entry stack : ℕ) (insns : List Insn) (report : Report) → IsWithinLimits t → IsStraight image entry insns → IsOfWalk t entry stack insns report → IsBound image report
 bound image t entry stack insns report limits straight is values range s n c start returns =
-    let home = slice_index s.registers 14 in
+    let home = slice_index s.cpu.registers 14 in
     let addresses = addresses_from entry insns in
     let rings = lines_of (geometry_of t) addresses ∷ [] in
     let there : IsAt t entry home None s = record {

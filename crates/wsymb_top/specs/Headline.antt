@@ -8,7 +8,7 @@ use Rattle.wsym_terms.specs.Trees.{tree_value}
 use Rattle.wsym_formula.specs.Terms.{term_value}
 use Rattle.report_text.specs.declared.report.Report.{Report}
 use Rattle.report_text.specs.declared.report.ReportLoop.{ReportLoop}
-use Rattle.arm_machine.specs.Starts.{RegisterNumber}
+use Rattle.arm_machine.specs.declared.start.RegisterValue.{RegisterValue}
 use Rattle.fetch_timing.specs.declared.timing.Timing.{Timing}
 use Rattle.arm_machine.specs.Bounds.{Bounds}
 use Rattle.wsymb_top.specs.Reports.{Describes}
@@ -21,10 +21,10 @@ AreInRange (p ∷ params) [] = ⊥
 AreInRange (p ∷ params) (v ∷ values) = (p.low ≤ℤ v) × (v ≤ℤ p.high) × AreInRange params values
 
 -- the registers of the parameters with their values
-abbrev pub numbers_of : List ParamRange → List ℤ → List RegisterNumber
+abbrev pub numbers_of : List ParamRange → List ℤ → List RegisterValue
 numbers_of [] values = []
 numbers_of (p ∷ params) [] = []
-numbers_of (p ∷ params) (v ∷ values) = record { register = p.register; number = v } ∷ numbers_of params values
+numbers_of (p ∷ params) (v ∷ values) = record { register = p.register; value = v } ∷ numbers_of params values
 
 abbrev pub loop_value : List ℤ → Option ReportLoop → Extent
 loop_value values None = Infinite

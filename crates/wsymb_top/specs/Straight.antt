@@ -6,14 +6,14 @@ use Rattle.arm_isa.specs.declared.instruction.Insn.{Insn}
 use Rattle.arm_isa.specs.declared.instruction.Op.{Op}
 use Rattle.arm_isa.specs.declared.instruction.Op.TheVariants as op
 use Rattle.arm_isa.specs.Writes.{is_link_register, writes_register}
-use Rattle.control_flow.specs.Instructions.{instruction_at, is_immediate}
+use Rattle.control_flow.specs.Instructions.{instruction_at}
 use Rattle.control_flow.specs.Points.{next_address}
 
--- data processing without shifts by a register
+-- data processing and multiplications
 abbrev pub is_plain : Op → Bool
-is_plain (op.Compute code flags rn rd operand) = is_immediate operand
-is_plain (op.Multiply add flags rd rn rs rm) = false
-is_plain (op.Long signed add flags hi lo rs rm) = false
+is_plain (op.Compute code flags rn rd operand) = true
+is_plain (op.Multiply add flags rd rn rs rm) = true
+is_plain (op.Long signed add flags hi lo rs rm) = true
 is_plain (op.Word load byte index up rn rd offset) = false
 is_plain (op.Half load kind index up rn rd offset) = false
 is_plain (op.Many load before up back rn list) = false

@@ -2,7 +2,7 @@ ghost use Rattle.std.specs.Prelude.{◌≡◌, IfOk};
 ghost use Rattle.wsymb_top.specs.Steps.{StepsTo, WalksTo};
 ghost use Rattle.wsymb_top.specs.Straight.{ends_well, goes_on, is_exit, is_plain};
 
-use arm_isa::{Insn, Op, Operand, is_return, may_write};
+use arm_isa::{Insn, Op, is_return, may_write};
 use control_flow::instruction_at;
 use elf32_image::Image;
 use sqlite_items::Items;
@@ -96,17 +96,14 @@ fn ends_well(insn: &Insn) -> bool
     insn.cond == ALWAYS && is_exit(insn)
 }
 
-/// Whether this is data processing without a shift by a register.
+/// Whether this is data processing or a multiplication.
 fn is_plain(op: &Op) -> bool
     ensures { result ≡ is_plain op.now }
 {
-    match op {
-        Op::Compute { operand, .. } => match operand {
-            Operand::Value { .. } | Operand::Shifted { .. } => true,
-            Operand::ByRegister { .. } => false,
-        },
-        _ => false,
-    }
+    matches!(
+        op,
+        Op::Compute { .. } | Op::Multiply { .. } | Op::Long { .. }
+    )
 }
 
 /// Whether this is BX r14 or MOV r15,r14: of the returns those that read no memory.
