@@ -26,7 +26,7 @@ abbrev file : List ℕ
 file = file_header ++ program_table ++ instructions
 
 abbrev image : ImageValue
-image = record { segments = record { address = 0x8000; bytes = instructions; size = 8; flags = 5 } ∷ [] }
+image = record { segments = record { address = 0x8000; bytes = instructions; size = 8; flags = 5 } ∷ []; functions = [] }
 
 pub header : header_of file ≡ Some (record { program_offset = 52; program_count = 1; section_offset = 0; section_count = 0 })
 header = refl

@@ -19,7 +19,7 @@ is_writable segment = segment.flags / 2 % 2 == 1
 abbrev pub covers : ℕ → Segment → Bool
 covers address segment = nat_le segment.address address && nat_lt address (segment.address + segment.size)
 
--- the segment that holds the address, the first one where two do
+-- the segment that holds the address
 abbrev pub holder : ImageValue → ℕ → Option Segment
 holder image address = find (covers address) image.segments
 
@@ -92,3 +92,7 @@ is_code image address =
     address % 4 == 0
     && is_executable_at image address && is_executable_at image (address + 1)
     && is_executable_at image (address + 2) && is_executable_at image (address + 3)
+
+-- the word at an address that is code
+abbrev pub code_at : ImageValue → ℕ → Option ℕ
+code_at image address = if is_code image address then word_at image address else None

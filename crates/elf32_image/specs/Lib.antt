@@ -1,5 +1,8 @@
 pub mod Fields
 pub mod Header
+pub mod Sections
 pub mod Segments
 pub mod Parts
 pub mod Bytes
+pub mod Names
+pub mod Index

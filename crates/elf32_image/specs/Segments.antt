@@ -1,14 +1,16 @@
--- The loaded segments of a file, and its image.
--- System V ABI, chapter 5, 'Program Header' and 'Program Loading'.
-use Rattle.std.specs.Prelude.{ℕ, ◌+◌, ◌*◌, ◌^◌, ◌==◌, ◌&&◌, ◌||◌, Bool, if◌then◌else◌, nat_le, nat_lt, zero, suc, List, [], ◌∷◌, length, take, drop, map, filter, Option, Some, None, Result, Ok, Err}
-use Rattle.std.specs.List.{list_all}
+-- From the bytes of a file to its image.
+-- System V ABI, chapter 5, 'Program Header' and 'Program Loading'; sections are those of chapter 4.
+use Rattle.std.specs.Prelude.{ℕ, zero, suc, ◌+◌, ◌*◌, ◌^◌, ◌==◌, ◌&&◌, ◌||◌, Bool, true, false, if◌then◌else◌, min, max, nat_le, nat_lt, List, [], ◌∷◌, length, drop, take, map, Option, None, Some, Result, Ok, Err}
+use Rattle.std.specs.List.{filter, list_all, list_any}
 use Rattle.elf32_image.specs.Fields.{word_field}
 use Rattle.elf32_image.specs.Header.{header_of}
 use Rattle.elf32_image.specs.Parts.{Segment, ImageValue}
+use Rattle.elf32_image.specs.Sections.{section_headers, is_whole, functions_of}
 use Rattle.elf32_image.specs.declared.format.FileHeader.{FileHeader}
 use Rattle.elf32_image.specs.declared.format.ProgramHeader.{ProgramHeader}
+use Rattle.elf32_image.specs.declared.format.SectionHeader.{SectionHeader}
 use Rattle.elf32_image.specs.declared.refusal.ElfRefusal.{ElfRefusal}
-use Rattle.elf32_image.specs.declared.refusal.ElfRefusal.TheVariants.{NotElf32Arm, Truncated}
+use Rattle.elf32_image.specs.declared.refusal.ElfRefusal.TheVariants.{NotElf32Arm, Truncated, SegmentsOverlap}
 
 -- the program header at the head of the bytes
 abbrev pub program_header : List ℕ → ProgramHeader
@@ -46,28 +48,48 @@ segment_of file header = record {
   flags = header.p_flags;
 }
 
--- the loaded segments that so many headers at the head of the table give, all of which must be within
-abbrev pub segments_of : List ℕ → ℕ → List ℕ → Result (List Segment) ElfRefusal
-segments_of file count table =
-    let loaded = filter is_loaded (program_headers count table) in
-    if list_all (is_within (length file)) loaded then Ok (map (segment_of file) loaded) else Err Truncated
+-- the program headers of the loaded segments of a file with this header
+abbrev pub loaded_headers : List ℕ → FileHeader → List ProgramHeader
+loaded_headers file header = filter is_loaded (program_headers header.program_count (drop header.program_offset file))
 
--- the program header table is empty or ends within the file
-abbrev pub table_is_within : ℕ → FileHeader → Bool
-table_is_within file_size header =
-    header.program_count == 0 || nat_le (header.program_offset + 32 * header.program_count) file_size
+-- the section headers of a file with this header
+abbrev pub sections_of : List ℕ → FileHeader → List SectionHeader
+sections_of file header = section_headers header.section_count (drop header.section_offset file)
 
--- the image of the segments
-abbrev pub image_with : Result (List Segment) ElfRefusal → Result ImageValue ElfRefusal
-image_with (Ok segments) = Ok (record { segments = segments })
-image_with (Err refusal) = Err refusal
+-- a table of so many entries of a size is empty or ends within the file
+abbrev pub table_is_within : ℕ → ℕ → ℕ → ℕ → Bool
+table_is_within file_size entry_size offset count = count == 0 || nat_le (offset + entry_size * count) file_size
 
--- the image of a file with this header
+-- all that is read of a file with this header is within the file and the memory
+abbrev pub is_complete : List ℕ → FileHeader → Bool
+is_complete file header =
+    table_is_within (length file) 32 header.program_offset header.program_count
+    && table_is_within (length file) 40 header.section_offset header.section_count
+    && list_all (is_within (length file)) (loaded_headers file header)
+    && list_all (is_whole (length file) (sections_of file header)) (sections_of file header)
+
+-- the two share an address: the greater of their first addresses lies before the end of both
+abbrev pub overlaps : Segment → Segment → Bool
+overlaps a b = nat_lt (max a.address b.address) (min (a.address + a.size) (b.address + b.size))
+
+-- two of the segments share an address
+abbrev pub has_overlap : List Segment → Bool
+has_overlap [] = false
+has_overlap (segment ∷ segments) = list_any (overlaps segment) segments || has_overlap segments
+
+-- the image that a file with this header gives
+abbrev pub image_with : List ℕ → FileHeader → ImageValue
+image_with file header = record {
+  segments = map (segment_of file) (loaded_headers file header);
+  functions = functions_of file (sections_of file header);
+}
+
+-- the image of a file with this header, or why it has none
 abbrev pub image_under : List ℕ → Option FileHeader → Result ImageValue ElfRefusal
 image_under file None = Err NotElf32Arm
 image_under file (Some header) =
-    if table_is_within (length file) header
-    then image_with (segments_of file header.program_count (drop header.program_offset file))
+    if is_complete file header
+    then (if has_overlap (image_with file header).segments then Err SegmentsOverlap else Ok (image_with file header))
     else Err Truncated
 
 -- the image of a file, or why it has none

@@ -1,12 +1,13 @@
 //! The constants and structures of the format, in the standard's names, and the reading of one
 //! structure from its bytes.
 //!
-//! System V ABI, chapter 4, 'ELF Header', and chapter 5, 'Program Header'. Numbers stand in the file
-//! with the least significant byte first.
+//! System V ABI, chapter 4, 'ELF Header', 'Sections' and 'Symbol Table', and chapter 5, 'Program
+//! Header'. Numbers stand in the file with the least significant byte first.
 
-ghost use Rattle.std.specs.Prelude.{◌≡◌, ◌+◌, ◌≤◌, length};
+ghost use Rattle.std.specs.Prelude.{◌≡◌, ◌+◌, ◌≤◌, drop, length};
 ghost use Rattle.elf32_image.specs.Fields.{half_field, word_field};
 ghost use Rattle.elf32_image.specs.Header.{has_entries_of, has_required_values, header_of, is_identified};
+ghost use Rattle.elf32_image.specs.Sections.{is_function, is_symbol_table, section_header, symbol_at, symbol_count};
 ghost use Rattle.elf32_image.specs.Segments.{is_loaded, program_header};
 
 use byteorder::{ByteOrder, LittleEndian};
@@ -29,6 +30,12 @@ pub(crate) const PT_LOAD: u32 = 1;
 pub(crate) const PF_X: u32 = 1;
 /// The flag of a segment that may be written.
 pub(crate) const PF_W: u32 = 2;
+/// The type of a section that is a symbol table.
+pub(crate) const SHT_SYMTAB: u32 = 2;
+/// The type of a symbol that is a function, in the low four bits of `st_info`.
+pub(crate) const STT_FUNC: u8 = 2;
+/// The section of a symbol that is not defined.
+pub(crate) const SHN_UNDEF: u16 = 0;
 
 /// The size of the file header, in bytes.
 pub(crate) const SIZEOF_EHDR: usize = 52;
@@ -36,6 +43,8 @@ pub(crate) const SIZEOF_EHDR: usize = 52;
 pub(crate) const SIZEOF_PHDR: usize = 32;
 /// The size of a section header, in bytes.
 pub(crate) const SIZEOF_SHDR: usize = 40;
+/// The size of a symbol, in bytes.
+pub(crate) const SIZEOF_SYM: usize = 16;
 
 // Where the fields of the file header begin.
 const EI_CLASS: usize = 4;
@@ -72,6 +81,24 @@ const P_FILESZ: usize = 16;
 const P_MEMSZ: usize = 20;
 
 const P_FLAGS: usize = 24;
+
+// Where the fields of a section header begin.
+const SH_TYPE: usize = 4;
+
+const SH_OFFSET: usize = 16;
+
+const SH_SIZE: usize = 20;
+
+const SH_LINK: usize = 24;
+
+// Where the fields of a symbol begin.
+const ST_NAME: usize = 0;
+
+const ST_VALUE: usize = 4;
+
+const ST_INFO: usize = 12;
+
+const ST_SHNDX: usize = 14;
 
 /// What the file header says of the two tables of an ELF32 executable for ARM.
 #[derive(Clone, Copy, Debug, PartialEq, Eq)]
@@ -139,6 +166,86 @@ impl ProgramHeader {
         ensures { result ≡ is_loaded self.now }
     {
         self.p_type == PT_LOAD && self.p_memsz > 0
+    }
+}
+
+/// The fields of a section header that symbols need.
+#[derive(Clone, Copy)]
+pub(crate) struct SectionHeader {
+    pub sh_type: u32,
+    pub sh_offset: u32,
+    pub sh_size: u32,
+    pub sh_link: u32,
+}
+
+impl SectionHeader {
+    /// The section header at the head of the bytes.
+    pub(crate) fn read(bytes: &[u8]) -> SectionHeader
+        requires { 40 ≤ length bytes.now }
+        ensures { result ≡ section_header bytes.now }
+    {
+        SectionHeader {
+            sh_type: word(bytes, SH_TYPE),
+            sh_offset: word(bytes, SH_OFFSET),
+            sh_size: word(bytes, SH_SIZE),
+            sh_link: word(bytes, SH_LINK),
+        }
+    }
+
+    /// Whether the section is a symbol table.
+    pub(crate) fn is_symbol_table(&self) -> bool
+        ensures { result ≡ is_symbol_table self.now }
+    {
+        self.sh_type == SHT_SYMTAB
+    }
+
+    /// How many symbols the section has as a symbol table.
+    pub(crate) fn symbol_count(&self) -> u32
+        ensures { result ≡ symbol_count self.now }
+    {
+        self.sh_size / SIZEOF_SYM as u32
+    }
+}
+
+/// The fields of a symbol that the names of functions need.
+#[derive(Clone, Copy)]
+pub(crate) struct Symbol {
+    pub st_name: u32,
+    pub st_value: u32,
+    pub st_info: u8,
+    pub st_shndx: u16,
+}
+
+impl Symbol {
+    /// The symbol at the head of the bytes.
+    pub(crate) fn read(bytes: &[u8]) -> Symbol
+        requires { 16 ≤ length bytes.now }
+        ensures { result ≡ symbol_at bytes.now }
+    {
+        Symbol {
+            st_name: word(bytes, ST_NAME),
+            st_value: word(bytes, ST_VALUE),
+            st_info: bytes[ST_INFO],
+            st_shndx: half(bytes, ST_SHNDX),
+        }
+    }
+
+    /// Whether the symbol is of a function and defined.
+    pub(crate) fn is_function(&self) -> bool
+        ensures { result ≡ is_function self.now }
+    {
+        self.st_info % 16 == STT_FUNC && self.st_shndx != SHN_UNDEF
+    }
+}
+
+/// The bytes from an offset on, none where it passes the end.
+pub(crate) fn from_offset(bytes: &[u8], offset: usize) -> &[u8]
+    ensures { result.now ≡ drop offset bytes.now }
+{
+    if offset < bytes.len() {
+        &bytes[offset..]
+    } else {
+        &[]
     }
 }
 

@@ -1,12 +1,12 @@
-//! Reads the image of an ELF32 executable for ARM: the segments that a loader puts into memory.
+//! Reads the image of an ELF32 executable for ARM: the segments that a loader puts into memory, and the
+//! addresses of its functions by their names.
 //!
 //! ```rust
 //! use elf32_image::{Loaded, read_image};
 //!
 //! let image = read_image(rt.alloc(), bytes)?;
-//! if image.is_code(0x8000) {
-//!     let first = image.word_at(0x8000);
-//! }
+//! let entry = image.function("main")?;
+//! let first = image.code_at(entry);
 //! assert_eq!(rt; image.loaded(0), Loaded::No);
 //! ```
 //!
@@ -16,6 +16,9 @@
 
 mod format;
 mod image;
+mod linking;
+mod lookup;
+mod naming;
 mod reading;
 mod refusal;
 #[cfg(test)]
@@ -24,4 +27,4 @@ mod tests;
 pub use format::FileHeader;
 pub use image::{Image, Loaded};
 pub use reading::read_image;
-pub use refusal::ElfRefusal;
+pub use refusal::{ElfRefusal, NameRefusal};
