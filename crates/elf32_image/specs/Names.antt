@@ -19,7 +19,7 @@ even_value value = if value % 2 == 1 then Err ThumbCode else Ok value
 -- the one value among these, or why there is none
 abbrev pub one_value : List ℕ → Result ℕ NameRefusal
 one_value [] = Err NoSymbol
-one_value (value ∷ values) = if list_all (λ v. v == value) values then even_value value else Err TwoSymbols
+one_value (value ∷ values) = if list_all (λ v. value == v) values then even_value value else Err TwoSymbols
 
 -- the value of the function with the name, or why there is none
 abbrev pub function_of : ImageValue → List ℕ → Result ℕ NameRefusal
