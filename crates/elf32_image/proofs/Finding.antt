@@ -46,7 +46,7 @@ values_append name [] gs = refl
 values_append name (f ∷ fs) gs =
     elim (bytes_eq f.name name) as
     (λ b. map (λ (g : FunctionSymbol). g.value) (cond b (f ∷ filter (λ g. bytes_eq g.name name) (fs ++ gs)) (filter (λ g. bytes_eq g.name name) (fs ++ gs)))
-        ≡ map (λ (g : FunctionSymbol). g.value) (cond b (f ∷ filter (λ g. bytes_eq g.name name) fs) (filter (λ g. bytes_eq g.name name) fs)) ++ values_of name gs)
+    ≡ map (λ (g : FunctionSymbol). g.value) (cond b (f ∷ filter (λ g. bytes_eq g.name name) fs) (filter (λ g. bytes_eq g.name name) fs)) ++ values_of name gs)
     [ true ↦ ap (λ l. f.value ∷ l) (values_append name fs gs) | false ↦ values_append name fs gs ]
 
 -- the values of the symbols that are left

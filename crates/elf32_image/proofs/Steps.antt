@@ -1,9 +1,9 @@
 -- Tables of entries, one behind the other: the first entry, those behind it, and the entry at a place.
-use Rattle.std.proofs.Common.{◌≡◌, ℕ, ◌+◌, ◌-◌, ◌*◌, ◌<◌, ◌≤◌, zero, suc, Bool, true, false, ◌&&◌, cond, List, [], ◌∷◌, ◌++◌, append_assoc, length, drop, Option, Some, None, refl, sym, ap, ◌∙◌, arith, length-drop, drop-drop, filter, slice_get}
+use Rattle.std.proofs.Common.{◌≡◌, ℕ, ◌+◌, ◌-◌, ◌*◌, ◌<◌, ◌≤◌, zero, suc, Bool, true, false, ◌&&◌, cond, List, [], ◌∷◌, ◌++◌, append_assoc, length, drop, Option, Some, None, refl, sym, ap, ◌∙◌, arith, length-drop, drop-drop, filter, slice_get, ⊎_elim}
 use Rattle.std.specs.List.{list_all}
-use Rattle.std.proofs.lemmas.Bool.{and_left}
+use Rattle.std.proofs.lemmas.Bool.{and_left, eqb-true, leb-true, or_cases}
 use Rattle.elf32_image.specs.Sections.{section_header, section_headers, symbol_at, symbols}
-use Rattle.elf32_image.specs.Segments.{is_loaded, program_header, program_headers}
+use Rattle.elf32_image.specs.Segments.{is_loaded, program_header, program_headers, table_is_within}
 use Rattle.elf32_image.specs.declared.format.ProgramHeader.{ProgramHeader}
 use Rattle.elf32_image.specs.declared.format.SectionHeader.{SectionHeader}
 use Rattle.elf32_image.specs.declared.format.Symbol.{Symbol}
@@ -79,3 +79,12 @@ within_ends p n rest h read some test fails = ap (list_all p) (loaded_next n res
 -- what is done and what is left, where the first of what is left is moved
 pub moved : {X : Type 0} (done more left next : List X) (x : X) → left ≡ x ∷ next → more ≡ done ++ x ∷ [] → more ++ next ≡ done ++ left
 moved done more left next x first put = ap (λ l. l ++ next) put ∙ append_assoc done (x ∷ []) next ∙ ap (λ l. done ++ l) (sym first)
+
+-- a table that ends within the file has room for its entries
+pub table_room : (size offset count : ℕ) (file table : List ℕ) → table ≡ drop offset file → table_is_within (length file) size offset count ≡ true → size * count ≤ length table
+table_room size offset count file table is within =
+    let long : length table ≡ length file - offset = ap length is ∙ length-drop offset file in
+    ⊎_elim
+    (λ none. let empty : count ≡ 0 = eqb-true _ _ none in rw empty (omega arith))
+    (λ ends. let fits = leb-true _ _ ends in omega arith)
+    (or_cases _ _ within)

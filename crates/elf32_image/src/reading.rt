@@ -1,9 +1,10 @@
 //! From the bytes of a file to its image.
 
-ghost use Rattle.std.specs.Prelude.{◌≡◌, ◌≢◌, ◌*◌, ◌≤◌, length, Ok, Err, None, IfOk, IsErrOf};
+ghost use Rattle.std.specs.Prelude.{◌≡◌, ◌≢◌, ◌*◌, ◌≤◌, length, Ok, Err, None, IfOk, IfErr, IsErrOf, false, true};
 ghost use Rattle.std.specs.List.{filter, list_all};
+ghost use Rattle.std.specs.List.Sorted.{IsNonDecreasingBy, IsPermutation};
 ghost use Rattle.elf32_image.specs.Header.{header_of};
-ghost use Rattle.elf32_image.specs.Segments.{image_of, is_complete, is_loaded, is_within, program_headers, table_is_within};
+ghost use Rattle.elf32_image.specs.Segments.{has_overlap, image_of, image_with, is_complete, is_loaded, is_within, program_headers, table_is_within};
 
 use crate::format::{FileHeader, ProgramHeader, SIZEOF_PHDR, SIZEOF_SHDR, from_offset};
 use crate::image::Image;
@@ -32,6 +33,7 @@ const MEMORY_SIZE: u64 = 1 << 32;
 ///   empty passes nothing.
 /// - `SegmentsOverlap`, else, exactly where two loaded segments share an address.
 /// - `Memory`, in place of any other answer, where memory ran out.
+#[tactic(none)]
 pub fn read_image(alloc: Global, bytes: &[u8]) -> Result<Image, ElfRefusal>
     ensures exact { result ≢ Err ElfRefusal.Memory → result ≡ image_of bytes.now }
     ensures ok { IfOk result (λ image. image_of bytes.now ≡ Ok image) }
@@ -39,22 +41,47 @@ pub fn read_image(alloc: Global, bytes: &[u8]) -> Result<Image, ElfRefusal>
     ensures truncated { IsErrOf result ElfRefusal.Truncated → image_of bytes.now ≡ Err ElfRefusal.Truncated }
     ensures overlap { IsErrOf result ElfRefusal.SegmentsOverlap → image_of bytes.now ≡ Err ElfRefusal.SegmentsOverlap }
 {
-    let Some(header) = FileHeader::read(bytes) else {
-        return Err(ElfRefusal::NotElf32Arm);
-    };
-    if !is_file_complete(bytes, &header) {
-        return Err(ElfRefusal::Truncated);
+    match FileHeader::read(bytes) {
+        None => Err(ElfRefusal::NotElf32Arm),
+        Some(header) => {
+            if is_file_complete(bytes, &header) {
+                load(alloc, bytes, header)
+            } else {
+                Err(ElfRefusal::Truncated)
+            }
+        }
     }
+}
+
+// The image of a file of which all that is read is there.
+#[tactic(none)]
+fn load(alloc: Global, bytes: &[u8], header: FileHeader) -> Result<Image, ElfRefusal>
+    requires { is_complete bytes.now header ≡ true }
+    ensures ok { IfOk result (λ image. (image ≡ image_with bytes.now header) × (has_overlap (image_with bytes.now header).segments ≡ false)) }
+    ensures overlap { IfErr result (λ why. why ≢ ElfRefusal.Memory → (why ≡ ElfRefusal.SegmentsOverlap) × (has_overlap (image_with bytes.now header).segments ≡ true)) }
+{
     let table = from_offset(bytes, header.program_offset as usize);
-    let mut loaded = read_loaded(alloc, header.program_count, table).map_err(
-        |_| ElfRefusal::Memory,
-    )?;
-    loaded.sort_unstable_by_key(|segment| segment.p_vaddr);
+    let Ok(read) = read_loaded(alloc, header.program_count, table) else {
+        return Err(ElfRefusal::Memory);
+    };
+    let loaded = by_address(read);
     if !do_ascend(loaded.as_slice()) {
         return Err(ElfRefusal::SegmentsOverlap);
     }
-    let file = bytes.to_vec(alloc).map_err(|_| ElfRefusal::Memory)?;
+    let Ok(file) = Vec::from_slice(alloc, bytes) else {
+        return Err(ElfRefusal::Memory);
+    };
     Ok(Image::from_parts(file, header, loaded))
+}
+
+// The segments in the order of their addresses.
+fn by_address(read: Vec<ProgramHeader>) -> Vec<ProgramHeader>
+    ensures permutation { IsPermutation read.items result.items }
+    ensures rises { IsNonDecreasingBy (λ segment. segment.p_vaddr) result.items }
+{
+    let mut loaded = read;
+    loaded.sort_unstable_by_key(|segment| segment.p_vaddr);
+    loaded
 }
 
 // Whether all that is read of a file with this header is within the file and the memory.

@@ -14,7 +14,7 @@ loop-left-preserved c = record {
         ∙ c.loop-left.invariant.same
     | else-is_loaded w ↦
         rw w.loaded-is
-            (ap (λ l. c.loop-left.loaded.items ++ l) (sym (loaded_over c.loop-left.left c.loop-left.rest.now _ c.read-header.result c.from_offset-rest.ensures c.read-header.ensures (omega arith) (sym c.is_loaded.ensures ∙ w.if-is_loaded.false)))
-            ∙ c.loop-left.invariant.same)
+        (ap (λ l. c.loop-left.loaded.items ++ l) (sym (loaded_over c.loop-left.left c.loop-left.rest.now _ c.read-header.result c.from_offset-rest.ensures c.read-header.ensures (omega arith) (sym c.is_loaded.ensures ∙ w.if-is_loaded.false)))
+        ∙ c.loop-left.invariant.same)
   ];
 }
