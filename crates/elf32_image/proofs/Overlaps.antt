@@ -10,7 +10,8 @@ use Rattle.std.proofs.lemmas.List.Sorted.{sum_by-IsPermutation, list_any-IsPermu
 use Rattle.elf32_image.specs.Bytes.{covers}
 use Rattle.elf32_image.specs.Index.{ascend, has_address, IsIndex}
 use Rattle.elf32_image.specs.Parts.{ImageValue, Segment}
-use Rattle.elf32_image.specs.Segments.{has_overlap, image_with, is_complete, is_loaded, is_within, loaded_headers, overlaps, program_headers, segment_of}
+use Rattle.elf32_image.specs.Segments.{has_overlap, image_with, is_complete, is_loaded, is_within, loaded_headers, overlaps, program_headers, sections_of, segment_of, table_is_within}
+use Rattle.elf32_image.specs.Sections.{functions_of, is_whole}
 use Rattle.elf32_image.specs.declared.format.FileHeader.{FileHeader}
 use Rattle.elf32_image.specs.declared.format.ProgramHeader.{ProgramHeader}
 use Rattle.elf32_image.proofs.Ascent.{above_floor, begins_behind, ends_before, first_rise, found, found_passes, later_rise, lower_floor, passes}
@@ -246,10 +247,12 @@ module _ (file : List ℕ) (header : FileHeader) (read sorted : List ProgramHead
   overlap_as : has_overlap (map (segment_of file) (loaded_headers file header)) ≡ any_pair (meet file) sorted
   overlap_as = ap (λ l. has_overlap (map (segment_of file) l)) (sym is) ∙ overlap_by_pairs file read ∙ any_pair_permuted (meet file) (meet_turned file) read sorted same
 
-  pub no_overlap : ascend 0 sorted ≡ true → has_overlap (map (segment_of file) (loaded_headers file header)) ≡ false
+  pub no_overlap : ascend 0 sorted ≡ true → has_overlap (image_with file header).segments ≡ false
+  unfolding image_with
   no_overlap up = overlap_as ∙ ascent_apart file 0 sorted up
 
-  pub some_overlap : IsNonDecreasingBy (λ (h : ProgramHeader). h.p_vaddr) sorted → ascend 0 sorted ≡ false → has_overlap (map (segment_of file) (loaded_headers file header)) ≡ true
+  pub some_overlap : IsNonDecreasingBy (λ (h : ProgramHeader). h.p_vaddr) sorted → ascend 0 sorted ≡ false → has_overlap (image_with file header).segments ≡ true
+  unfolding image_with
   some_overlap rises not_up = overlap_as ∙ by_list sorted rises sized not_up
     where
       sized : list_all is_loaded sorted ≡ true
@@ -262,6 +265,7 @@ module _ (file : List ℕ) (header : FileHeader) (read sorted : List ProgramHead
       by_list (h ∷ hs) rises_there sized_there e = descent_meets file 0 h hs rises_there sized_there (omega arith) e
 
   pub is_index : is_complete file header ≡ true → ascend 0 sorted ≡ true → IsIndex file header sorted
+  unfolding image_with is_complete
   is_index whole up = record {
     complete = whole;
     within = sym (all_permuted (is_within (length file)) read sorted same) ∙ ap (list_all (is_within (length file))) is ∙ (and_parts _ _ (and_parts _ _ whole).0).1;
@@ -272,3 +276,21 @@ module _ (file : List ℕ) (header : FileHeader) (read sorted : List ProgramHead
 -- an image of equal bytes
 pub image_of_copy : (image : ImageValue) (file copy : List ℕ) (header : FileHeader) → image ≡ image_with copy header → copy ≡ file → image ≡ image_with file header
 image_of_copy image file copy header is same = subst (λ (l : List ℕ). image ≡ image_with l header) same is
+
+-- the parts of a file that is complete
+pub programs_within : (file : List ℕ) (header : FileHeader) → is_complete file header ≡ true → table_is_within (length file) 32 header.program_offset header.program_count ≡ true
+unfolding is_complete
+programs_within file header whole = (and_parts _ _ (and_parts _ _ (and_parts _ _ whole).0).0).0
+
+pub sections_within : (file : List ℕ) (header : FileHeader) → is_complete file header ≡ true → table_is_within (length file) 40 header.section_offset header.section_count ≡ true
+unfolding is_complete
+sections_within file header whole = (and_parts _ _ (and_parts _ _ (and_parts _ _ whole).0).0).1
+
+pub sections_whole : (file : List ℕ) (header : FileHeader) → is_complete file header ≡ true → list_all (is_whole (length file) (sections_of file header)) (sections_of file header) ≡ true
+unfolding is_complete
+sections_whole file header whole = (and_parts _ _ whole).1
+
+-- the parts of an image
+pub functions_are : (file : List ℕ) (header : FileHeader) → (image_with file header).functions ≡ functions_of file (sections_of file header)
+unfolding image_with
+functions_are file header = refl

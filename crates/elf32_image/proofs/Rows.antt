@@ -4,7 +4,7 @@ use Rattle.std.proofs.Common.{◌≡◌, ℕ, true, false, List, [], ◌∷◌, 
 use Rattle.elf32_image.specs.Bytes.{is_code, word_at, constant_at, loaded}
 use Rattle.elf32_image.specs.Header.{header_of}
 use Rattle.elf32_image.specs.Parts.{ImageValue}
-use Rattle.elf32_image.specs.Segments.{image_of}
+use Rattle.elf32_image.specs.Segments.{image_of, image_with, is_complete}
 use Rattle.elf32_image.specs.declared.image.Loaded.TheVariants.{No, ReadOnly}
 use Rattle.elf32_image.specs.declared.refusal.ElfRefusal.TheVariants.{NotElf32Arm, Truncated}
 
@@ -32,6 +32,7 @@ pub header : header_of file ≡ Some (record { program_offset = 52; program_coun
 header = refl
 
 pub whole : image_of file ≡ Ok image
+unfolding image_with is_complete
 whole = refl
 
 -- a byte of the file header is missing
@@ -40,10 +41,12 @@ short_header = refl
 
 -- the table of program headers is missing
 pub no_table : image_of (take 52 file) ≡ Err Truncated
+unfolding image_with is_complete
 no_table = refl
 
 -- a byte of the segment is missing
 pub short_segment : image_of (take 91 file) ≡ Err Truncated
+unfolding image_with is_complete
 short_segment = refl
 
 pub code : is_code image 0x8004 ≡ true

@@ -61,7 +61,7 @@ abbrev pub table_is_within : ℕ → ℕ → ℕ → ℕ → Bool
 table_is_within file_size entry_size offset count = count == 0 || nat_le (offset + entry_size * count) file_size
 
 -- all that is read of a file with this header is within the file and the memory
-abbrev pub is_complete : List ℕ → FileHeader → Bool
+unfoldable pub is_complete : List ℕ → FileHeader → Bool
 is_complete file header =
     table_is_within (length file) 32 header.program_offset header.program_count
     && table_is_within (length file) 40 header.section_offset header.section_count
@@ -78,7 +78,7 @@ has_overlap [] = false
 has_overlap (segment ∷ segments) = list_any (overlaps segment) segments || has_overlap segments
 
 -- the image that a file with this header gives
-abbrev pub image_with : List ℕ → FileHeader → ImageValue
+unfoldable pub image_with : List ℕ → FileHeader → ImageValue
 image_with file header = record {
   segments = map (segment_of file) (loaded_headers file header);
   functions = functions_of file (sections_of file header);

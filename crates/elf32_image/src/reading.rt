@@ -33,7 +33,6 @@ const MEMORY_SIZE: u64 = 1 << 32;
 ///   empty passes nothing.
 /// - `SegmentsOverlap`, else, exactly where two loaded segments share an address.
 /// - `Memory`, in place of any other answer, where memory ran out.
-#[tactic(none)]
 pub fn read_image(alloc: Global, bytes: &[u8]) -> Result<Image, ElfRefusal>
     ensures exact { result ≢ Err ElfRefusal.Memory → result ≡ image_of bytes.now }
     ensures ok { IfOk result (λ image. image_of bytes.now ≡ Ok image) }
@@ -85,6 +84,7 @@ fn by_address(read: Vec<ProgramHeader>) -> Vec<ProgramHeader>
 }
 
 // Whether all that is read of a file with this header is within the file and the memory.
+#[tactic(auto, using(crate::proofs::Steps::table_room), unfolding(crate::specs::Segments::is_complete))]
 fn is_file_complete(file: &[u8], header: &FileHeader) -> bool
     ensures { result ≡ is_complete file.now header.now }
 {

@@ -1,8 +1,7 @@
 use Rattle.std.proofs.Common.{rules, ◌≡◌, ◌∙◌, sym, ap, subst, refl, true, false, filter}
-use Rattle.std.proofs.lemmas.Bool.{and_parts}
 use Rattle.elf32_image.specs.Index.{ascend, IsIndex}
 use Rattle.elf32_image.specs.Segments.{image_with, is_loaded, loaded_headers, program_headers}
-use Rattle.elf32_image.proofs.Overlaps.{image_of_copy, no_overlap, some_overlap, is_index}
+use Rattle.elf32_image.proofs.Overlaps.{image_of_copy, no_overlap, programs_within, some_overlap, is_index}
 use Rattle.elf32_image.proofs.Steps.{table_room}
 use Rattle.elf32_image.proofs.reading.load.Goals as goal
 
@@ -12,7 +11,7 @@ overflow_cast-header c = search rules
 pub read_loaded-requires : goal.read_loaded-requires
 read_loaded-requires c =
     table_room 32 c.args.header.program_offset c.args.header.program_count c.args.bytes.now c.from_offset-table.result.now c.from_offset-table.ensures
-    (and_parts _ _ (and_parts _ _ (and_parts _ _ c.requires).0).0).0
+    (programs_within c.args.bytes.now c.args.header c.requires)
 
 pub returns-in_default-clause-overlap : goal.returns-in_default-clause-overlap
 returns-in_default-clause-overlap c = λ other. absurd (other refl)
