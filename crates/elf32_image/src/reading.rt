@@ -53,7 +53,6 @@ pub fn read_image(alloc: Global, bytes: &[u8]) -> Result<Image, ElfRefusal>
 }
 
 // The image of a file of which all that is read is there.
-#[tactic(none)]
 fn load(alloc: Global, bytes: &[u8], header: FileHeader) -> Result<Image, ElfRefusal>
     requires { is_complete bytes.now header ≡ true }
     ensures ok { IfOk result (λ image. (image ≡ image_with bytes.now header) × (has_overlap (image_with bytes.now header).segments ≡ false)) }
