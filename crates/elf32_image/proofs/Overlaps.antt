@@ -161,18 +161,19 @@ descent_meets file floor h [] up sized start not_up = absurd (differ (sym (le-le
     plain : (b : Bool) → (b && true) ≡ false → b ≡ false
     plain true e = e
     plain false e = refl
+
     differ : true ≡ false → ⊥
     differ e = cc
 descent_meets file floor h (g ∷ gs) up sized start not_up =
     ⊎_elim
     (λ inside.
-        let order : h.p_vaddr ≤ g.p_vaddr = up 0 1 h (omega arith) (omega arith) in
-        let some : 0 < g.p_memsz = size_positive g (and_parts _ _ (and_parts (is_loaded h) (list_all is_loaded (g ∷ gs)) sized).1).0 in
-        ap (λ b. (b || list_any (meet file h) gs) || any_pair (meet file) (g ∷ gs)) (crossing h.p_vaddr (h.p_vaddr + h.p_memsz) g.p_vaddr (g.p_vaddr + g.p_memsz) order inside (omega arith)))
+    let order : h.p_vaddr ≤ g.p_vaddr = up 0 1 h (omega arith) (omega arith) in
+    let some : 0 < g.p_memsz = size_positive g (and_parts _ _ (and_parts (is_loaded h) (list_all is_loaded (g ∷ gs)) sized).1).0 in
+    ap (λ b. (b || list_any (meet file h) gs) || any_pair (meet file) (g ∷ gs)) (crossing h.p_vaddr (h.p_vaddr + h.p_memsz) g.p_vaddr (g.p_vaddr + g.p_memsz) order inside (omega arith)))
     (λ behind.
-        let not_behind : ascend (h.p_vaddr + h.p_memsz) (g ∷ gs) ≡ false = ap (λ b. b && ascend (h.p_vaddr + h.p_memsz) (g ∷ gs)) (sym (le-leb floor h.p_vaddr start)) ∙ not_up in
-        ap (λ b. list_any (meet file h) (g ∷ gs) || b) (descent_meets file (h.p_vaddr + h.p_memsz) g gs (rises_behind h (g ∷ gs) up) (and_parts (is_loaded h) (list_all is_loaded (g ∷ gs)) sized).1 behind not_behind)
-        ∙ or_true (list_any (meet file h) (g ∷ gs)))
+    let not_behind : ascend (h.p_vaddr + h.p_memsz) (g ∷ gs) ≡ false = ap (λ b. b && ascend (h.p_vaddr + h.p_memsz) (g ∷ gs)) (sym (le-leb floor h.p_vaddr start)) ∙ not_up in
+    ap (λ b. list_any (meet file h) (g ∷ gs) || b) (descent_meets file (h.p_vaddr + h.p_memsz) g gs (rises_behind h (g ∷ gs) up) (and_parts (is_loaded h) (list_all is_loaded (g ∷ gs)) sized).1 behind not_behind)
+    ∙ or_true (list_any (meet file h) (g ∷ gs)))
     (cases_lt g.p_vaddr (h.p_vaddr + h.p_memsz))
 
 -- a test of all elements is one of all in another order
@@ -257,6 +258,7 @@ module _ (file : List ℕ) (header : FileHeader) (read sorted : List ProgramHead
     where
       sized : list_all is_loaded sorted ≡ true
       sized = sym (all_permuted is_loaded read sorted same) ∙ ap (list_all is_loaded) is ∙ all_kept is_loaded (program_headers header.program_count (drop header.program_offset file))
+
       by_list : (hs : List ProgramHeader) → Rises hs → list_all is_loaded hs ≡ true → ascend 0 hs ≡ false → any_pair (meet file) hs ≡ true
       by_list [] rises_there sized_there e = absurd (clash e)
         where

@@ -22,6 +22,8 @@ mod naming;
 mod reading;
 mod refusal;
 #[cfg(test)]
+mod symbol_tests;
+#[cfg(test)]
 mod tests;
 
 pub use format::FileHeader;

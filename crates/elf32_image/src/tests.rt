@@ -5,7 +5,7 @@ use std::alloc::{AllocError, Global};
 use std::test::Fail;
 
 /// An executable of one segment at 0x8000 with two instructions.
-static FILE: [u8; 92] = [
+pub(crate) static FILE: [u8; 92] = [
     0x7f, 0x45, 0x4c, 0x46, 0x01, 0x01, 0x01, 0x00, 0x00, 0x00, 0x00, 0x00, 0x00, 0x00, 0x00, 0x00,
     0x02, 0x00, 0x28, 0x00, 0x01, 0x00, 0x00, 0x00, 0x00, 0x80, 0x00, 0x00, 0x34, 0x00, 0x00, 0x00,
     0x00, 0x00, 0x00, 0x00, 0x00, 0x00, 0x00, 0x00, 0x34, 0x00, 0x20, 0x00, 0x01, 0x00, 0x00, 0x00,
@@ -50,7 +50,11 @@ const NOT_ELF: Option<ElfRefusal> = Some(ElfRefusal::NotElf32Arm);
 const TRUNCATED: Option<ElfRefusal> = Some(ElfRefusal::Truncated);
 
 /// A file with each of these words written at its offset.
-fn edited(alloc: Global, file: &[u8], edits: &[(u16, u32)]) -> Result<Vec<u8>, AllocError> {
+pub(crate) fn edited(
+    alloc: Global,
+    file: &[u8],
+    edits: &[(u16, u32)],
+) -> Result<Vec<u8>, AllocError> {
     let mut bytes = file.to_vec(alloc)?;
     for (offset, word) in edits {
         for (index, byte) in word.to_le_bytes().iter().enumerate() {
@@ -244,7 +248,13 @@ fn answers_at_each_address(rt: HostRuntime) -> Result<(), Fail> {
     for (edits, address, code, word, constant, loaded) in cases {
         let file = edited(rt.alloc(), &FILE, edits)?;
         let image = read_image(rt.alloc(), &file)?;
+        let instruction = if code { word } else { None };
         assert_eq!(rt; image.is_code(address), code, "at {address:#x}, {edits:?}");
+        assert_eq!(rt;
+            image.code_at(address),
+            instruction,
+            "at {address:#x}, {edits:?}"
+        );
         assert_eq!(rt; image.word_at(address), word, "at {address:#x}, {edits:?}");
         assert_eq!(rt;
             image.constant_at(address),
@@ -268,6 +278,7 @@ fn reads_words_across_two_segments(rt: HostRuntime) -> Result<(), Fail> {
         (MEMORY_SIZE, 6),
     ];
     let second: &[(u16, u32)] = &[(OFFSET + 32, 116), (ADDRESS + 32, 0x8006), (FLAGS + 32, 6)];
+    let executable: &[(u16, u32)] = &[(FLAGS + 32, 5)];
     let file = edited(rt.alloc(), &file, first)?;
     let file = edited(rt.alloc(), &file, second)?;
     let image = read_image(rt.alloc(), &file)?;
@@ -275,8 +286,14 @@ fn reads_words_across_two_segments(rt: HostRuntime) -> Result<(), Fail> {
     assert_eq!(rt; image.word_at(0x8004), Some(0x0001ff1e));
     assert_eq!(rt; image.constant_at(0x8004), None);
     assert!(rt; image.is_code(0x8000) && !image.is_code(0x8004));
+    assert_eq!(rt; image.code_at(0x8000), Some(0xe3a00001));
+    assert_eq!(rt; image.code_at(0x8004), None);
     assert_eq!(rt; image.loaded(0x8005), Loaded::ReadOnly(0xff));
     assert_eq!(rt; image.loaded(0x8006), Loaded::Writable(0x01));
     assert_eq!(rt; image.loaded(0x800d), Loaded::Writable(0xe1));
+    let image = read_image(rt.alloc(), &edited(rt.alloc(), &file, executable)?)?;
+    assert!(rt; image.is_code(0x8004));
+    assert_eq!(rt; image.code_at(0x8004), Some(0x0001ff1e));
+    assert_eq!(rt; image.constant_at(0x8004), Some(0x0001ff1e));
     Ok(())
 }

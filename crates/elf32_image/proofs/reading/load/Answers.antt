@@ -28,9 +28,10 @@ returns-in_default-from_slice-clause-overlap c = λ other. absurd (other refl)
 pub returns-clause-ok : goal.returns-clause-ok
 returns-clause-ok c =
     let read : c.in-Ok.read.items ≡ loaded_headers c.args.bytes.now c.args.header = c.in-Ok.ensures ∙ ap (λ l. filter is_loaded (program_headers c.args.header.program_count l)) c.from_offset-table.ensures in
-    let up : ascend 0 c.by_address-loaded.result.items ≡ true = ap (ascend 0) (sym c.as_slice.ensures.value) ∙ sym c.do_ascend.ensures ∙ c.if-not-do_ascend.false in
-    ( image_of_copy c.from_parts.result c.args.bytes.now c.in-Ok-from_slice.file.items c.args.header c.from_parts.ensures c.in-Ok-from_slice.ensures.items
-    , no_overlap c.args.bytes.now c.args.header c.in-Ok.read.items c.by_address-loaded.result.items read c.by_address-loaded.ensures.permutation up )
+    let up : ascend 0 c.by_address-loaded.result.items ≡ true = ap (ascend 0) (sym c.as_slice.ensures.value) ∙ sym c.do_ascend.ensures ∙ c.if-not-do_ascend.false in (
+      image_of_copy c.from_parts.result c.args.bytes.now c.in-Ok-from_slice.file.items c.args.header c.from_parts.ensures c.in-Ok-from_slice.ensures.items,
+      no_overlap c.args.bytes.now c.args.header c.in-Ok.read.items c.by_address-loaded.result.items read c.by_address-loaded.ensures.permutation up,
+    )
 
 pub from_parts-requires : goal.from_parts-requires
 from_parts-requires c =
