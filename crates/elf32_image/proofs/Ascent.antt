@@ -1,6 +1,6 @@
 -- Program headers in the order of their addresses: which of them has an address.
-use Rattle.std.proofs.Common.{◌≡◌, ℕ, ◌+◌, ◌-◌, ◌<◌, ◌≤◌, zero, suc, Bool, true, false, ◌&&◌, cond, List, [], ◌∷◌, length, get_or, take, drop, ltb, leb, Option, Some, None, refl, sym, ap, ◌∙◌, subst, arith, ◌⊎◌, inl, inr, ⊎_elim}
-use Rattle.std.specs.List.{find, list_all, list_any, Contains}
+use Rattle.std.proofs.Common.{◌≡◌, ℕ, ◌+◌, ◌<◌, ◌≤◌, zero, suc, Bool, true, false, cond, List, [], ◌∷◌, length, get_or, take, drop, ltb, leb, Some, None, refl, sym, ap, ◌∙◌, arith, ⊎_elim}
+use Rattle.std.specs.List.{find, list_all}
 use Rattle.std.proofs.lemmas.Bool.{and_parts, and_from, and_left, and_right, cases_Bool, leb-true, ltb-true, le-leb, lt-ltb, lt-leb, le-ltb, cases_lt}
 use Rattle.elf32_image.specs.Index.{ascend, has_address, HasWord}
 use Rattle.elf32_image.specs.declared.format.ProgramHeader.{ProgramHeader}

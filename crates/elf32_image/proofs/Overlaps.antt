@@ -1,20 +1,19 @@
 -- Whether two segments share an address, in the order of the program headers and in that of the addresses.
-use Rattle.std.proofs.Common.{◌≡◌, ℕ, ◌+◌, ◌-◌, ◌*◌, ◌<◌, ◌≤◌, zero, suc, Bool, true, false, ◌&&◌, ◌||◌, not, eqb, ltb, leb, cond, min, max, drop, List, [], ◌∷◌, length, get_or, map, filter, Option, Some, None, refl, sym, ap, subst, ◌∙◌, arith, zero-add, ◌⊎◌, inl, inr, ⊎_elim, ◌↔◌}
-use Rattle.std.specs.List.{All, Contains, count_by, find, list_all, list_any, sum_by}
+use Rattle.std.proofs.Common.{◌≡◌, ℕ, ◌+◌, ◌*◌, ◌<◌, ◌≤◌, zero, suc, Bool, true, false, ◌&&◌, ◌||◌, not, eqb, ltb, leb, cond, min, max, drop, List, [], ◌∷◌, length, get_or, map, filter, Option, Some, None, refl, sym, ap, subst, ◌∙◌, arith, zero-add, ⊎_elim}
+use Rattle.std.specs.List.{Contains, count_by, find, list_all, list_any, sum_by}
 use Rattle.std.specs.List.Sorted.{IsPermutation, IsNonDecreasingBy}
 use Rattle.std.specs.Option.{option_map}
-use Rattle.std.proofs.lemmas.Bool.{and_parts, and_from, cases_Bool, cases_lt, leb-true, ltb-true, ltb-false, le-leb, lt-ltb, lt-leb, le-ltb}
-use Rattle.std.proofs.lemmas.Bool.Decides.{nat_tests}
+use Rattle.std.proofs.lemmas.Bool.{and_parts, cases_Bool, cases_lt, leb-true, ltb-true, le-leb, lt-ltb, le-ltb}
 use Rattle.std.proofs.lemmas.List.Sums.{sum_by-cons}
 use Rattle.std.proofs.lemmas.List.Sorted.{sum_by-IsPermutation, list_any-IsPermutation, Contains-permutation}
 use Rattle.elf32_image.specs.Bytes.{covers}
 use Rattle.elf32_image.specs.Index.{ascend, has_address, IsIndex}
-use Rattle.elf32_image.specs.Parts.{ImageValue, Segment}
+use Rattle.elf32_image.specs.Parts.{ImageValue}
 use Rattle.elf32_image.specs.Segments.{has_overlap, image_with, is_complete, is_loaded, is_within, loaded_headers, overlaps, program_headers, sections_of, segment_of, table_is_within}
 use Rattle.elf32_image.specs.Sections.{functions_of, is_whole}
 use Rattle.elf32_image.specs.declared.format.FileHeader.{FileHeader}
 use Rattle.elf32_image.specs.declared.format.ProgramHeader.{ProgramHeader}
-use Rattle.elf32_image.proofs.Ascent.{above_floor, begins_behind, ends_before, first_rise, found, found_passes, later_rise, lower_floor, passes}
+use Rattle.elf32_image.proofs.Ascent.{above_floor, ends_before, first_rise, found, found_passes, later_rise, passes}
 
 -- Pairs of elements that a test holds of, each with one behind it. Twice their number is the same in each order.
 module _ {X : Type 0} (R : X → X → Bool) where

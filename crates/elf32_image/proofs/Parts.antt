@@ -1,5 +1,5 @@
 -- What the parts of an image say of its look-ups.
-use Rattle.std.proofs.Common.{◌≡◌, ℕ, ◌+◌, ◌*◌, ◌≤◌, Bool, true, List, length, drop, Option, Some, Result, sym, ap, subst, ◌∙◌}
+use Rattle.std.proofs.Common.{◌≡◌, ℕ, ◌+◌, ◌*◌, ◌≤◌, true, List, length, drop, Some, Result, sym, ap, ◌∙◌}
 use Rattle.std.specs.List.{find, list_all}
 use Rattle.elf32_image.specs.Index.{has_address, HasWord}
 use Rattle.elf32_image.specs.Names.{function_of, one_value, values_of}

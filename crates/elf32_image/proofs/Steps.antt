@@ -1,12 +1,11 @@
 -- Tables of entries, one behind the other: the first entry, those behind it, and the entry at a place.
-use Rattle.std.proofs.Common.{◌≡◌, ℕ, ◌+◌, ◌-◌, ◌*◌, ◌<◌, ◌≤◌, zero, suc, Bool, true, false, ◌&&◌, cond, List, [], ◌∷◌, ◌++◌, append_assoc, length, drop, Option, Some, None, refl, sym, ap, ◌∙◌, arith, length-drop, drop-drop, filter, slice_get, ⊎_elim}
+use Rattle.std.proofs.Common.{◌≡◌, ℕ, ◌+◌, ◌-◌, ◌*◌, ◌<◌, ◌≤◌, zero, suc, Bool, true, false, ◌&&◌, cond, List, [], ◌∷◌, ◌++◌, append_assoc, length, drop, Some, None, refl, sym, ap, ◌∙◌, arith, length-drop, drop-drop, filter, slice_get, ⊎_elim}
 use Rattle.std.specs.List.{list_all}
 use Rattle.std.proofs.lemmas.Bool.{and_left, eqb-true, leb-true, or_cases}
 use Rattle.elf32_image.specs.Sections.{section_header, section_headers, symbol_at, symbols}
 use Rattle.elf32_image.specs.Segments.{is_loaded, program_header, program_headers, table_is_within}
 use Rattle.elf32_image.specs.declared.format.ProgramHeader.{ProgramHeader}
 use Rattle.elf32_image.specs.declared.format.SectionHeader.{SectionHeader}
-use Rattle.elf32_image.specs.declared.format.Symbol.{Symbol}
 
 -- what is left of a table still has room for the entries that are left
 pub room_left : (size n : ℕ) (rest next : List ℕ) → next ≡ drop size rest → 0 < n → size * n ≤ length rest → size * (n - 1) ≤ length next

@@ -1,5 +1,5 @@
 -- The bytes and words of a segment, in the file and in the image.
-use Rattle.std.proofs.Common.{◌≡◌, ℕ, ◌+◌, ◌-◌, ◌*◌, ◌<◌, ◌≤◌, List, length, get_or, take, drop, slice_get, unwrap_or, refl, sym, ap, ◌∙◌, arith, get_or-take, get_or-drop}
+use Rattle.std.proofs.Common.{◌≡◌, ℕ, ◌+◌, ◌-◌, ◌*◌, ◌<◌, ◌≤◌, List, get_or, take, drop, refl, sym, ap, ◌∙◌, arith, get_or-take, get_or-drop}
 use Rattle.std.proofs.lemmas.Option.{unwrap_or-slice_get}
 use Rattle.elf32_image.specs.Bytes.{byte_of}
 use Rattle.elf32_image.specs.Index.{word_in}

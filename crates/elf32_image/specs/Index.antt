@@ -1,8 +1,8 @@
 -- The program headers of the loaded segments in the order of their addresses, in which look-ups are done.
-use Rattle.std.specs.Prelude.{◌≡◌, ℕ, ◌+◌, ◌*◌, ◌/◌, ◌%◌, ◌==◌, ◌&&◌, Bool, true, nat_le, nat_lt, List, [], ◌∷◌, length, Option, Some, option_map}
+use Rattle.std.specs.Prelude.{◌≡◌, ℕ, ◌+◌, ◌*◌, ◌/◌, ◌%◌, ◌==◌, ◌&&◌, Bool, true, nat_le, nat_lt, List, [], ◌∷◌, length, Some, option_map}
 use Rattle.std.specs.List.{find, list_all}
 use Rattle.elf32_image.specs.Bytes.{byte_of, covers}
-use Rattle.elf32_image.specs.Parts.{Segment, ImageValue}
+use Rattle.elf32_image.specs.Parts.{Segment}
 use Rattle.elf32_image.specs.Segments.{image_with, is_complete, is_within, segment_of}
 use Rattle.elf32_image.specs.declared.format.FileHeader.{FileHeader}
 use Rattle.elf32_image.specs.declared.format.ProgramHeader.{ProgramHeader}

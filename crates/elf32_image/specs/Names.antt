@@ -1,7 +1,7 @@
 -- The value of a function by its name.
 -- System V ABI, chapter 4, 'Symbol Table'. Bit 0 of the value of a function symbol says that its code is
 -- Thumb code ('ELF for the Arm Architecture').
-use Rattle.std.specs.Prelude.{ℕ, ◌%◌, ◌==◌, Bool, if◌then◌else◌, List, [], ◌∷◌, map, Option, Some, None, Result, Ok, Err}
+use Rattle.std.specs.Prelude.{ℕ, ◌%◌, ◌==◌, if◌then◌else◌, List, [], ◌∷◌, map, Option, Some, None, Result, Ok, Err}
 use Rattle.std.specs.List.{filter, list_all}
 use Rattle.std.specs.Str.{bytes_eq}
 use Rattle.elf32_image.specs.Parts.{FunctionSymbol, ImageValue}

@@ -1,7 +1,7 @@
 -- Section headers, symbol tables and string tables.
 -- System V ABI, chapter 4, 'Sections', 'String Table' and 'Symbol Table'.
-use Rattle.std.specs.Prelude.{ℕ, zero, suc, ◌+◌, ◌*◌, ◌/◌, ◌%◌, ◌==◌, ◌&&◌, ◌||◌, Bool, true, false, not, if◌then◌else◌, nat_le, List, [], ◌∷◌, length, drop, take, map, slice_get, Option, None, Some}
-use Rattle.std.specs.List.{filter, flat_map, list_all}
+use Rattle.std.specs.Prelude.{ℕ, zero, suc, ◌+◌, ◌/◌, ◌%◌, ◌==◌, ◌&&◌, ◌||◌, Bool, false, not, if◌then◌else◌, nat_le, List, [], ◌∷◌, drop, take, map, slice_get, Option, None, Some}
+use Rattle.std.specs.List.{filter, flat_map}
 use Rattle.elf32_image.specs.Fields.{byte_field, half_field, word_field}
 use Rattle.elf32_image.specs.Parts.{FunctionSymbol}
 use Rattle.elf32_image.specs.declared.format.SectionHeader.{SectionHeader}

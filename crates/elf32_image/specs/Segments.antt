@@ -1,6 +1,6 @@
 -- From the bytes of a file to its image.
 -- System V ABI, chapter 5, 'Program Header' and 'Program Loading'; sections are those of chapter 4.
-use Rattle.std.specs.Prelude.{ℕ, zero, suc, ◌+◌, ◌*◌, ◌^◌, ◌==◌, ◌&&◌, ◌||◌, Bool, true, false, if◌then◌else◌, min, max, nat_le, nat_lt, List, [], ◌∷◌, length, drop, take, map, Option, None, Some, Result, Ok, Err}
+use Rattle.std.specs.Prelude.{ℕ, zero, suc, ◌+◌, ◌*◌, ◌^◌, ◌==◌, ◌&&◌, ◌||◌, Bool, false, if◌then◌else◌, min, max, nat_le, nat_lt, List, [], ◌∷◌, length, drop, take, map, Option, None, Some, Result, Ok, Err}
 use Rattle.std.specs.List.{filter, list_all, list_any}
 use Rattle.elf32_image.specs.Fields.{word_field}
 use Rattle.elf32_image.specs.Header.{header_of}

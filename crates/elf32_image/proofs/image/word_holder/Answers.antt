@@ -1,4 +1,4 @@
-use Rattle.std.proofs.Common.{rules, ◌≡◌, ◌∙◌, sym}
+use Rattle.std.proofs.Common.{rules, ◌∙◌, sym}
 use Rattle.elf32_image.proofs.Ascent.{has_word}
 use Rattle.elf32_image.proofs.image.word_holder.Goals as goal
 

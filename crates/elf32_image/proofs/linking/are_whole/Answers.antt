@@ -1,4 +1,4 @@
-use Rattle.std.proofs.Common.{◌≡◌, ◌∙◌, sym, arith}
+use Rattle.std.proofs.Common.{◌∙◌, sym, arith}
 use Rattle.elf32_image.specs.Sections.{is_whole, section_headers}
 use Rattle.elf32_image.proofs.Steps.{all_next, all_ends, room_left}
 use Rattle.elf32_image.proofs.linking.are_whole.Goals as goal

@@ -1,4 +1,4 @@
-use Rattle.std.proofs.Common.{◌≡◌, ◌∙◌, sym, ap, arith, Some}
+use Rattle.std.proofs.Common.{◌∙◌, sym, ap, arith, Some}
 use Rattle.elf32_image.specs.Sections.{section_header}
 use Rattle.elf32_image.specs.declared.format.SectionHeader.{SectionHeader}
 use Rattle.elf32_image.proofs.Steps.{section_at, section_past}

@@ -1,7 +1,5 @@
-use Rattle.std.proofs.Common.{rules, ◌≡◌, ◌≤◌, ◌<◌, ◌-◌, ◌/◌, length, length-take, length-drop, take, drop, arith, ◌∙◌, true, ap}
-use Rattle.std.specs.List.{find}
+use Rattle.std.proofs.Common.{◌/◌, length, length-take, length-drop, arith, ◌∙◌}
 use Rattle.std.proofs.lemmas.List.{take_rest}
-use Rattle.elf32_image.specs.Index.{ascend, has_address}
 use Rattle.elf32_image.proofs.Ascent.{rise_drop, rise_take, find_before, find_behind}
 use Rattle.elf32_image.proofs.lookup.holder.Goals as goal
 

@@ -1,8 +1,8 @@
-use Rattle.std.proofs.Common.{◌≡◌, ◌∙◌, refl, sym, ap, arith, length}
+use Rattle.std.proofs.Common.{◌∙◌, refl, sym, ap, arith, length}
 use Rattle.std.proofs.lemmas.Result.{err_from_is_err_and}
 use Rattle.elf32_image.specs.Names.{agreed}
 use Rattle.elf32_image.specs.Sections.{section_headers}
-use Rattle.elf32_image.proofs.Finding.{agreed_stops, agreed_table, other_section, section_values, symbols_fit, table_first, whole_behind, whole_first}
+use Rattle.elf32_image.proofs.Finding.{agreed_stops, agreed_table, other_section, symbols_fit, table_first, whole_behind, whole_first}
 use Rattle.elf32_image.proofs.Steps.{room_left}
 use Rattle.elf32_image.proofs.naming.find_in_sections.Goals as goal
 use Rattle.elf32_image.proofs.naming.find_in_sections.Goals.{then-is_symbol_table+in_ok-found, else-is_symbol_table}

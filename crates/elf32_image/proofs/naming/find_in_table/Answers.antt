@@ -1,8 +1,8 @@
-use Rattle.std.proofs.Common.{◌≡◌, ◌∙◌, sym, ap, arith}
+use Rattle.std.proofs.Common.{◌∙◌, sym, ap, arith}
 use Rattle.std.specs.Str.{bytes_eq}
 use Rattle.elf32_image.specs.Names.{agreed}
 use Rattle.elf32_image.specs.Sections.{until_zero}
-use Rattle.elf32_image.proofs.Finding.{agreed_next, other_kind, other_name, same_name, values_left}
+use Rattle.elf32_image.proofs.Finding.{agreed_next, other_kind, other_name, same_name}
 use Rattle.elf32_image.proofs.Steps.{room_left}
 use Rattle.elf32_image.proofs.naming.find_in_table.Goals as goal
 use Rattle.elf32_image.proofs.naming.find_in_table.Goals.{then-is_function+then-is_name+in_ok-found, else-is_function, else-is_function-via-then-is_function+else-is_name, else-is_function-via-else-is_function}

@@ -1,4 +1,4 @@
-use Rattle.std.proofs.Common.{◌≡◌, ◌∙◌, sym, ap, arith}
+use Rattle.std.proofs.Common.{◌∙◌, sym, ap, arith}
 use Rattle.std.specs.List.{list_all}
 use Rattle.elf32_image.specs.Segments.{is_within}
 use Rattle.elf32_image.proofs.Steps.{loaded_over, room_left, within_next, within_ends}

@@ -1,6 +1,6 @@
 use Rattle.std.proofs.Common.{rules, ◌≡◌, ◌∙◌, sym, ap, subst, refl, true, false, filter}
 use Rattle.elf32_image.specs.Index.{ascend, IsIndex}
-use Rattle.elf32_image.specs.Segments.{image_with, is_loaded, loaded_headers, program_headers}
+use Rattle.elf32_image.specs.Segments.{is_loaded, loaded_headers, program_headers}
 use Rattle.elf32_image.proofs.Overlaps.{image_of_copy, no_overlap, programs_within, some_overlap, is_index}
 use Rattle.elf32_image.proofs.Steps.{table_room}
 use Rattle.elf32_image.proofs.reading.load.Goals as goal

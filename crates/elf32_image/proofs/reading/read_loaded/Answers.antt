@@ -1,4 +1,4 @@
-use Rattle.std.proofs.Common.{◌≡◌, ◌∙◌, ◌++◌, sym, ap, arith, rules}
+use Rattle.std.proofs.Common.{◌∙◌, ◌++◌, sym, ap, arith, rules}
 use Rattle.elf32_image.proofs.Steps.{loaded_next, loaded_over, moved, room_left}
 use Rattle.elf32_image.proofs.reading.read_loaded.Goals as goal
 use Rattle.elf32_image.proofs.reading.read_loaded.Goals.{then-is_loaded+in_ok-push, else-is_loaded}
