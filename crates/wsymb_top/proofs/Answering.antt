@@ -34,6 +34,7 @@ why_of bytes image entry (refusal.UnknownWord a) one is cause = (one, image, is,
 why_of bytes image entry (refusal.OutsideCode a) one is cause = (one, image, is, cause)
 why_of bytes image entry refusal.NotElf32Arm one is cause = absurd cause
 why_of bytes image entry refusal.Truncated one is cause = absurd cause
+why_of bytes image entry refusal.SegmentsOverlap one is cause = absurd cause
 why_of bytes image entry refusal.Usage one is cause = absurd cause
 why_of bytes image entry refusal.ReadFault one is cause = absurd cause
 why_of bytes image entry refusal.FileTooLong one is cause = absurd cause

@@ -7,6 +7,7 @@ use Rattle.elf32_image.specs.Header.{header_of}
 use Rattle.elf32_image.specs.Segments.{image_of}
 use Rattle.elf32_image.specs.declared.format.FileHeader.{FileHeader}
 use Rattle.elf32_image.specs.declared.refusal.ElfRefusal.{ElfRefusal}
+use Rattle.elf32_image.specs.declared.refusal.ElfRefusal.TheVariants as elf
 use Rattle.arm_isa.specs.declared.instruction.Insn.{Insn}
 use Rattle.arm_isa.specs.declared.instruction.Op.{Op}
 use Rattle.arm_isa.specs.declared.instruction.Op.TheVariants as op
@@ -41,6 +42,7 @@ walk_status image (suc most) a = unwrap_or (status_at image a) (walk_status imag
 
 abbrev by_image : ℕ → Result ImageValue ElfRefusal → ℕ
 by_image entry (Ok image) = walk_status image 100 entry
+by_image entry (Err elf.SegmentsOverlap) = 12
 by_image entry (Err why) = 11
 
 abbrev by_header : List ℕ → ℕ → Option FileHeader → ℕ
@@ -160,6 +162,7 @@ agrees bytes entry refusal.Usage short fixed cause = absurd cause
 agrees bytes entry refusal.FileTooLong short fixed cause = absurd cause
 agrees bytes entry refusal.NotElf32Arm short fixed cause = not_long bytes entry short ∙ ap (by_header bytes entry) cause
 agrees bytes entry refusal.Truncated short fixed cause = one_header bytes entry short cause.0 ∙ ap (by_image entry) cause.1
+agrees bytes entry refusal.SegmentsOverlap short fixed cause = one_header bytes entry short cause.0 ∙ ap (by_image entry) cause.1
 agrees bytes entry refusal.NotStraight short fixed (inl other) =
     not_long bytes entry short ∙ ap (by_header bytes entry) other.1
     ∙ refused (eqb other.0.program_count 1) (by_image entry (image_of bytes)) 38 (differs other.0.program_count 1 other.2)
@@ -190,6 +193,7 @@ decides words files before after (Refuses refusal.Usage) fixed due = inl (due, r
 decides words files before after (Refuses refusal.FileTooLong) fixed (Analyse elf entry, asked, long) = inr (elf, entry, asked, long_agrees (file_bytes files elf) entry long)
 decides words files before after (Refuses refusal.NotElf32Arm) fixed (Analyse elf entry, asked, cause) = inr (elf, entry, asked, agrees (file_bytes files elf) entry refusal.NotElf32Arm cause.0 tt cause.1)
 decides words files before after (Refuses refusal.Truncated) fixed (Analyse elf entry, asked, cause) = inr (elf, entry, asked, agrees (file_bytes files elf) entry refusal.Truncated cause.0 tt cause.1)
+decides words files before after (Refuses refusal.SegmentsOverlap) fixed (Analyse elf entry, asked, cause) = inr (elf, entry, asked, agrees (file_bytes files elf) entry refusal.SegmentsOverlap cause.0 tt cause.1)
 decides words files before after (Refuses refusal.NotStraight) fixed (Analyse elf entry, asked, cause) = inr (elf, entry, asked, agrees (file_bytes files elf) entry refusal.NotStraight cause.0 tt cause.1)
 decides words files before after (Refuses (refusal.UnknownWord a)) fixed (Analyse elf entry, asked, cause) = inr (elf, entry, asked, agrees (file_bytes files elf) entry (refusal.UnknownWord a) cause.0 tt cause.1)
 decides words files before after (Refuses (refusal.OutsideCode a)) fixed (Analyse elf entry, asked, cause) = inr (elf, entry, asked, agrees (file_bytes files elf) entry (refusal.OutsideCode a) cause.0 tt cause.1)
@@ -222,6 +226,7 @@ free_or_fixed (Refuses refusal.Usage) result is = inr (inr tt)
 free_or_fixed (Refuses refusal.FileTooLong) result is = inr (inr tt)
 free_or_fixed (Refuses refusal.NotElf32Arm) result is = inr (inr tt)
 free_or_fixed (Refuses refusal.Truncated) result is = inr (inr tt)
+free_or_fixed (Refuses refusal.SegmentsOverlap) result is = inr (inr tt)
 free_or_fixed (Refuses refusal.NotStraight) result is = inr (inr tt)
 free_or_fixed (Refuses (refusal.UnknownWord a)) result is = inr (inr tt)
 free_or_fixed (Refuses (refusal.OutsideCode a)) result is = inr (inr tt)

@@ -34,6 +34,7 @@ IsRefusedByWalk image entry (refusal.UnknownWord a) = IsUnknownAt image entry a
 IsRefusedByWalk image entry (refusal.OutsideCode a) = IsOutsideAt image entry a
 IsRefusedByWalk image entry refusal.NotElf32Arm = ⊥
 IsRefusedByWalk image entry refusal.Truncated = ⊥
+IsRefusedByWalk image entry refusal.SegmentsOverlap = ⊥
 IsRefusedByWalk image entry refusal.Usage = ⊥
 IsRefusedByWalk image entry refusal.ReadFault = ⊥
 IsRefusedByWalk image entry refusal.FileTooLong = ⊥
@@ -43,6 +44,7 @@ abbrev pub IsRefusedFor : List ℕ → ℕ → Refusal → Type 0
 IsRefusedFor bytes entry refusal.Memory = Unit {0}
 IsRefusedFor bytes entry refusal.NotElf32Arm = header_of bytes ≡ None
 IsRefusedFor bytes entry refusal.Truncated = HasOneHeader bytes × (image_of bytes ≡ Err elf.Truncated)
+IsRefusedFor bytes entry refusal.SegmentsOverlap = HasOneHeader bytes × (image_of bytes ≡ Err elf.SegmentsOverlap)
 IsRefusedFor bytes entry refusal.NotStraight =
     ((header : FileHeader) × (header_of bytes ≡ Some header) × (header.program_count ≢ 1))
     ⊎ (HasOneHeader bytes × (image : ImageValue) × (image_of bytes ≡ Ok image) × IsCrooked image entry)
@@ -107,6 +109,7 @@ IsDue words reading (Refuses refusal.ReadFault) = HasReadFault words reading.bef
 IsDue words reading (Refuses refusal.FileTooLong) = OnFile words reading (λ bytes entry. longest < length bytes)
 IsDue words reading (Refuses refusal.NotElf32Arm) = OnFile words reading (λ bytes entry. (length bytes ≤ longest) × IsRefusedFor bytes entry refusal.NotElf32Arm)
 IsDue words reading (Refuses refusal.Truncated) = OnFile words reading (λ bytes entry. (length bytes ≤ longest) × IsRefusedFor bytes entry refusal.Truncated)
+IsDue words reading (Refuses refusal.SegmentsOverlap) = OnFile words reading (λ bytes entry. (length bytes ≤ longest) × IsRefusedFor bytes entry refusal.SegmentsOverlap)
 IsDue words reading (Refuses refusal.NotStraight) = OnFile words reading (λ bytes entry. (length bytes ≤ longest) × IsRefusedFor bytes entry refusal.NotStraight)
 IsDue words reading (Refuses (refusal.UnknownWord a)) = OnFile words reading (λ bytes entry. (length bytes ≤ longest) × IsRefusedFor bytes entry (refusal.UnknownWord a))
 IsDue words reading (Refuses (refusal.OutsideCode a)) = OnFile words reading (λ bytes entry. (length bytes ≤ longest) × IsRefusedFor bytes entry (refusal.OutsideCode a))
@@ -152,6 +155,7 @@ IsFixed (Refuses refusal.Usage) = Unit {0}
 IsFixed (Refuses refusal.FileTooLong) = Unit {0}
 IsFixed (Refuses refusal.NotElf32Arm) = Unit {0}
 IsFixed (Refuses refusal.Truncated) = Unit {0}
+IsFixed (Refuses refusal.SegmentsOverlap) = Unit {0}
 IsFixed (Refuses refusal.NotStraight) = Unit {0}
 IsFixed (Refuses (refusal.UnknownWord a)) = Unit {0}
 IsFixed (Refuses (refusal.OutsideCode a)) = Unit {0}

@@ -40,6 +40,7 @@ fn image_of_file(alloc: Global, bytes: &[u8]) -> Result<Image, Refusal>
         Err(ElfRefusal::Memory) => Err(Refusal::Memory),
         Err(ElfRefusal::NotElf32Arm) => Err(Refusal::NotElf32Arm),
         Err(ElfRefusal::Truncated) => Err(Refusal::Truncated),
+        Err(ElfRefusal::SegmentsOverlap) => Err(Refusal::SegmentsOverlap),
     }
 }
 

@@ -34,6 +34,8 @@ pub enum Refusal {
     NotElf32Arm,
     /// Status 11: a table or a segment passes the file's end, or a segment doesn't fit its place in memory.
     Truncated,
+    /// Status 12: two loaded segments share an address.
+    SegmentsOverlap,
     /// Status 31: the word at this address has no decoding.
     UnknownWord(u32),
     /// Status 32: this address isn't code.
@@ -54,6 +56,7 @@ impl Refusal {
             Refusal::FileTooLong => 5,
             Refusal::NotElf32Arm => 10,
             Refusal::Truncated => 11,
+            Refusal::SegmentsOverlap => 12,
             Refusal::UnknownWord(_) => 31,
             Refusal::OutsideCode(_) => 32,
             Refusal::NotStraight => 38,
@@ -78,6 +81,7 @@ impl Refusal {
             Refusal::FileTooLong => line.push_str("refused 5 file too long\n")?,
             Refusal::NotElf32Arm => line.push_str("refused 10 not an ELF32 ARM executable\n")?,
             Refusal::Truncated => line.push_str("refused 11 truncated\n")?,
+            Refusal::SegmentsOverlap => line.push_str("refused 12 segments overlap\n")?,
             Refusal::NotStraight => line.push_str("refused 38 not straight\n")?,
         }
         Ok(line)
