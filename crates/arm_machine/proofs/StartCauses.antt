@@ -1,16 +1,14 @@
 -- What is known where no cause stands against a start.
-use Rattle.std.proofs.Common.{◌≡◌, ℕ, zero, suc, ℤ, pos, ◌+◌, ◌-◌, ◌%◌, ◌^◌, ◌<◌, ◌≤◌, ◌-ℤ◌, ◌≤ℤ◌, ◌==◌, ◌&&◌, ◌||◌, not, Bool, true, false, cond, is_some, Option, Some, None, List, ◌++◌, refl, sym, ap, ◌∙◌, subst, arith}
+use Rattle.std.proofs.Common.{◌≡◌, ℕ, zero, suc, ℤ, pos, ◌+◌, ◌-◌, ◌%◌, ◌^◌, ◌<◌, ◌≤◌, ◌-ℤ◌, ◌≤ℤ◌, ◌==◌, ◌&&◌, ◌||◌, not, Bool, true, false, cond, is_some, Option, Some, None, refl, sym, ap, ◌∙◌, subst, arith}
 use Rattle.std.proofs.lemmas.Bool.{eqb-true, false≢true}
-use Rattle.std.specs.List as list
 use Rattle.std.specs.List.{flat_map}
-use Rattle.std.specs.Int.{cast_signed, w32}
 use Rattle.std.specs.Prelude.{int_le, T}
 use Rattle.std.specs.Ordering.{nat_cmp}
 use Rattle.std.specs.Cmp.{nat_cmp_total}
 use Rattle.std.specs.FinMap.{find, get, get-from_entries}
 use lib.Signed.{le_z_yes}
 use Rattle.elf32_image.specs.Parts.{ImageValue, Segment}
-use Rattle.elf32_image.specs.Bytes.{byte_at, constant_byte, constant_byte_at, covers, executable_in, holder, is_code, is_executable_at, is_writable, loaded_byte, loaded_in}
+use Rattle.elf32_image.specs.Bytes.{byte_at, constant_byte, constant_byte_at, executable_in, holder, is_code, is_executable_at, is_writable, loaded_byte, loaded_in}
 use Rattle.elf32_image.specs.declared.image.Loaded.TheVariants.{ReadOnly, Writable}
 use Rattle.arm_machine.specs.declared.start.StartRefusal.{StartRefusal}
 use Rattle.arm_machine.specs.declared.start.StartRefusal.TheVariants as refusal

@@ -1,23 +1,15 @@
 -- The state with which a machine starts is a start state.
-use Rattle.std.proofs.Common.{◌≡◌, ◌≢◌, ℕ, zero, suc, ℤ, pos, neg_ℤ, ◌+◌, ◌-◌, ◌*◌, ◌%◌, ◌^◌, ◌<◌, ◌≤◌, ◌+ℤ◌, ◌-ℤ◌, ◌≤ℤ◌, ◌==◌, ◌&&◌, ◌||◌, not, Bool, true, false, cond, is_some, Option, Some, None, List, [], ◌∷◌, length, replicate, slice_index, slice_set, eqb, lit<, refl, sym, ap, ◌∙◌, subst, arith}
-use Rattle.std.proofs.lemmas.Bool.{eqb-true, eq-eqb, false≢true}
+use Rattle.std.proofs.Common.{◌≡◌, ◌≢◌, ℕ, zero, suc, pos, ◌+◌, ◌-◌, ◌%◌, ◌^◌, ◌<◌, ◌≤◌, ◌-ℤ◌, ◌≤ℤ◌, ◌==◌, true, false, None, List, [], ◌∷◌, length, replicate, slice_index, slice_set, lit<, refl, sym, ap, ◌∙◌, subst, arith}
+use Rattle.std.proofs.lemmas.Bool.{eq-eqb, false≢true}
 use Rattle.std.proofs.lemmas.List.{get_or-set_other, get_or-set_same, length-set}
-use Rattle.std.proofs.lemmas.Int.{to_z-of_z}
 use Rattle.std.specs.List.{AllByRecursion}
-use Rattle.std.specs.List as list
-use Rattle.std.specs.Int.{cast_signed, cast_unsigned, w32}
-use Rattle.std.specs.Ordering.{nat_cmp}
-use Rattle.std.specs.Cmp.{nat_cmp_total}
-use Rattle.std.specs.FinMap.{find, get, from_entries, get-from_entries}
-use Rattle.std.specs.Prelude.{int_le}
+use Rattle.std.specs.Int.{cast_unsigned, w32}
 use Rattle.elf32_image.specs.Parts.{ImageValue}
 use Rattle.elf32_image.specs.Bytes.{byte_at, is_code}
 use Rattle.fetch_timing.specs.declared.timing.Timing.{Timing}
 use Rattle.fetch_timing.specs.Caches.{IsCache}
 use Rattle.control_flow.specs.Points.{IsInCode}
 use Rattle.arm_machine.specs.declared.start.RegisterValue.{RegisterValue}
-use Rattle.arm_machine.specs.declared.start.StartRefusal.{StartRefusal}
-use Rattle.arm_machine.specs.declared.start.StartRefusal.TheVariants as refusal
 use Rattle.arm_machine.specs.Starting.{AreParameters, ComesBack, bad_start, home, start_registers, start_state, with_values}
 use Rattle.arm_machine.specs.Starts.{HasNumbers, IsStart}
 use Rattle.arm_machine.proofs.StartCauses.{constants_there, home_outside, is_good, room_above, room_below, stack_apart}

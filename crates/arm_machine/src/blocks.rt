@@ -8,12 +8,11 @@ ghost use Rattle.arm_machine.specs.Machines.{Ends, state_of};
 ghost use Rattle.arm_machine.specs.Blocks.{AreAligned, block_base, block_stop, is_push_block, landed, load_block, loads_many, lowest, placed, rebased_block, registers_of, stored_block, stores_many};
 
 use crate::access::Size;
-use arm_cpu::{Cpu, PC};
 use crate::memory::Memory;
 use crate::state::{MachineState, SP, Store, store_stop};
 use crate::stops::StepEnd;
-use arm_cpu::Stop;
 use crate::transfers::is_saved;
+use arm_cpu::{Cpu, PC, Stop};
 use elf32_image::Image;
 
 /// LDM or STM: the registers of the list, and where their words stand.

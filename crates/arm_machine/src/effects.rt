@@ -8,13 +8,10 @@ ghost use Rattle.arm_machine.specs.Transfers.{transfers};
 ghost use Rattle.arm_machine.specs.Machines.{Ends, end_of, state_of};
 
 use crate::blocks::{Block, load_many, store_many};
-use arm_cpu::Cpu;
-use arm_cpu::{multiply, multiply_long};
 use crate::state::MachineState;
 use crate::stops::StepEnd;
-use arm_cpu::Stop;
-use arm_cpu::compute;
 use crate::transfers::{Transfer, kind_size, load, store, word_size};
+use arm_cpu::{Cpu, Stop, compute, multiply, multiply_long};
 use arm_isa::{HalfKind, Op};
 use elf32_image::Image;
 

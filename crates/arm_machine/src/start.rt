@@ -9,9 +9,9 @@ ghost use Rattle.elf32_image.specs.Bytes.{byte_at};
 ghost use Rattle.arm_machine.specs.Starting.{AreParameters, ComesBack, bad_start, is_any_loaded, is_home_loaded, is_in_range, start_cpu, start_state};
 ghost use Rattle.arm_machine.specs.Machines.{state_of};
 
-use arm_cpu::Cpu;
 use crate::memory::Memory;
 use crate::state::MachineState;
+use arm_cpu::Cpu;
 use arm_isa::Flags;
 use elf32_image::{Image, Loaded};
 use fetch_timing::{LruCache, Timing, empty_cache_is_a_cache};

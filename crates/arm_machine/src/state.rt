@@ -6,9 +6,8 @@ ghost use Rattle.elf32_image.specs.Bytes.{constant_byte_at};
 ghost use Rattle.arm_machine.specs.Machines.{state_of};
 
 use crate::access::Size;
-use arm_cpu::Cpu;
 use crate::memory::{Memory, is_aligned};
-use arm_cpu::Stop;
+use arm_cpu::{Cpu, Stop};
 use elf32_image::{Image, Loaded};
 use fetch_timing::LruCache;
 use std::alloc::AllocError;

@@ -9,12 +9,10 @@ ghost use Rattle.arm_machine.specs.Machines.{Ends, state_of};
 ghost use Rattle.arm_machine.specs.Transfers.{accessed, changed_base, extended, is_before_back, is_push, kind_size, loads, offset_value, rebased, stores, transfers, word_size};
 
 use crate::access::Size;
-use arm_cpu::Cpu;
 use crate::memory::Memory;
-use arm_cpu::shift_value;
 use crate::state::{MachineState, SP, Store, store_stop};
 use crate::stops::StepEnd;
-use arm_cpu::Stop;
+use arm_cpu::{Cpu, Stop, shift_value};
 use arm_isa::{HalfKind, Index, Offset};
 use elf32_image::Image;
 

@@ -77,7 +77,7 @@ fn answer(alloc: Global, words: &[&str], code: &[u32]) -> Result<(u8, Vec<u8>), 
 fn analyses_straight_functions(rt: HostRuntime) -> Result<(), Fail> {
     let words = ["analyse", "a.elf", "unit", "0x8000"];
     let five = [0xe3a00001, 0xe2800001, 0xe2800001, 0xe2800001, 0xe12fff1e];
-    let table: [(&[u32], u8, &str); 13] = [
+    let table: [(&[u32], u8, &str); 16] = [
         (&[0xe3a00001, 0xe12fff1e], 0, TWO),
         (&five, 0, FIVE),
         // MOV r15,r14 as the end.
@@ -88,16 +88,21 @@ fn analyses_straight_functions(rt: HostRuntime) -> Result<(), Fail> {
             0,
             FIVE,
         ),
-        // MRS, shifts by a register and conditions have no decoding yet, and a return from an exception never has.
-        (&[0xe10f0000], 31, "refused 31 unknown word at 0x00008000\n"),
+        // MOV r0,r2,LSL r3, MUL r0,r1,r2, MLAS r0,r1,r2,r3 and SMLAL r0,r1,r2,r3.
         (
-            &[0xe3a00001, 0xe1a00312],
-            31,
-            "refused 31 unknown word at 0x00008004\n",
+            &[0xe1a00312, 0xe0000291, 0xe0303291, 0xe0e10392, 0xe12fff1e],
+            0,
+            FIVE,
         ),
+        // MRS and a return from an exception have no decoding.
+        (&[0xe10f0000], 31, "refused 31 unknown word at 0x00008000\n"),
         (&[0xe1b0f00e], 31, "refused 31 unknown word at 0x00008000\n"),
-        (&[0x03a00001], 31, "refused 31 unknown word at 0x00008000\n"),
         (&[0xe3a00001], 32, "refused 32 outside code at 0x00008004\n"),
+        // A condition, a load, a push and a call.
+        (&[0x03a00001], 38, CROOKED),
+        (&[0xe5900000, 0xe12fff1e], 38, CROOKED),
+        (&[0xe92d4010, 0xe12fff1e], 38, CROOKED),
+        (&[0xebfffffe, 0xe12fff1e], 38, CROOKED),
         // The return address, the stack pointer and r15 written, and BX of another register.
         (&[0xe3a0e000, 0xe12fff1e], 38, CROOKED),
         (&[0xe24dd004, 0xe12fff1e], 38, CROOKED),
