@@ -1,10 +1,13 @@
 -- The definitions, computed on an executable of 92 bytes: a file header, one program header, and two
 -- instructions that are loaded at 0x8000.
-use Rattle.std.proofs.Common.{◌≡◌, ℕ, true, false, List, [], ◌∷◌, ◌++◌, take, Some, Ok, Err, refl}
+use Rattle.std.proofs.Common.{◌≡◌, ℕ, true, false, List, [], ◌∷◌, ◌++◌, drop, take, Some, Ok, Err, refl}
 use Rattle.elf32_image.specs.Bytes.{is_code, word_at, constant_at, loaded}
 use Rattle.elf32_image.specs.Header.{header_of}
-use Rattle.elf32_image.specs.Parts.{ImageValue}
-use Rattle.elf32_image.specs.Segments.{image_of, image_with, is_complete}
+use Rattle.elf32_image.specs.Parts.{ImageValue, Segment}
+use Rattle.elf32_image.specs.Segments.{has_overlap, image_of, image_with, is_complete}
+use Rattle.elf32_image.specs.Names.{function_of}
+use Rattle.elf32_image.specs.Sections.{until_zero}
+use Rattle.elf32_image.specs.declared.refusal.NameRefusal.TheVariants.{NoSymbol, TwoSymbols, ThumbCode}
 use Rattle.elf32_image.specs.declared.image.Loaded.TheVariants.{No, ReadOnly}
 use Rattle.elf32_image.specs.declared.refusal.ElfRefusal.TheVariants.{NotElf32Arm, Truncated}
 
@@ -69,3 +72,44 @@ last_byte = refl
 
 pub behind : loaded image 0x8008 ≡ No
 behind = refl
+
+-- segments that touch share no address, and those that meet in a zero do
+abbrev part : ℕ → ℕ → Segment
+part address size = record { address = address; bytes = []; size = size; flags = 5 }
+
+pub touching : has_overlap (part 0x8008 8 ∷ part 0x8000 8 ∷ []) ≡ false
+touching = refl
+
+pub sharing : has_overlap (part 0x8007 8 ∷ part 0x9000 8 ∷ part 0x8000 8 ∷ []) ≡ true
+sharing = refl
+
+-- the names f, g twice with one value, h with two values, and i with an odd one
+abbrev named : ImageValue
+named = record {
+  segments = [];
+  functions =
+      record { name = 102 ∷ []; value = 0x8000 } ∷ record { name = 103 ∷ []; value = 0x8004 } ∷ record { name = 103 ∷ []; value = 0x8004 }
+      ∷ record { name = 104 ∷ []; value = 0x8001 } ∷ record { name = 104 ∷ []; value = 0x8000 } ∷ record { name = 105 ∷ []; value = 0x8001 } ∷ [];
+}
+
+pub one_symbol : function_of named (102 ∷ []) ≡ Ok 0x8000
+one_symbol = refl
+
+pub equal_symbols : function_of named (103 ∷ []) ≡ Ok 0x8004
+equal_symbols = refl
+
+pub two_symbols : function_of named (104 ∷ []) ≡ Err TwoSymbols
+two_symbols = refl
+
+pub thumb_code : function_of named (105 ∷ []) ≡ Err ThumbCode
+thumb_code = refl
+
+pub no_symbol : function_of named [] ≡ Err NoSymbol
+no_symbol = refl
+
+-- a name ends before a zero byte or at the end, and one behind the end is empty
+pub name_ends : until_zero (102 ∷ 111 ∷ 0 ∷ 103 ∷ []) ≡ 102 ∷ 111 ∷ []
+name_ends = refl
+
+pub name_behind : until_zero (drop 9 (102 ∷ 0 ∷ [])) ≡ []
+name_behind = refl
