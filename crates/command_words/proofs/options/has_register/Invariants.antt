@@ -1,0 +1,6 @@
+use Rattle.std.proofs.Common.{◌≡◌, ◌==◌, drop}
+use Rattle.std.specs.List.{list_any}
+use Rattle.command_words.proofs.options.has_register.Given as goal
+
+abbrev pub invariant-loop-other : goal.invariant-loop-other
+invariant-loop-other l = list_any (λ q. q.register == l.register) (drop l.other-index l.values) ≡ list_any (λ q. q.register == l.register) l.values
