@@ -7,6 +7,7 @@
 #![tactic(auto)]
 
 mod commands;
+mod laws;
 mod numerals;
 mod options;
 mod places;
@@ -15,6 +16,7 @@ mod tests;
 mod word;
 
 pub use commands::{Command, read_command};
+pub use laws::numbers_are_decimal;
 pub use options::Setup;
 pub use places::{FunctionWord, Task, TimingWord};
 pub use word::Word;

@@ -1,6 +1,6 @@
 //! Lists of words, each rule at its limit.
 
-use crate::{Command, FunctionWord, Setup, Task, TimingWord, read_command};
+use crate::{Command, FunctionWord, Setup, Task, TimingWord, numbers_are_decimal, read_command};
 use std::alloc::{AllocError, Global};
 use std::fmt::Write;
 use std::test::Fail;
@@ -302,4 +302,9 @@ fn wrong_options(rt: HostRuntime) -> Result<(), Fail> {
         assert!(rt; asked(rt.alloc(), words.as_str())?.is_none(), "{options}");
     }
     Ok(())
+}
+
+#[test]
+fn laws_are_calls() {
+    numbers_are_decimal();
 }
