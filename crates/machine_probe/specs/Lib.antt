@@ -1,0 +1,2 @@
+pub mod ProbedRuns
+pub mod Weights

@@ -1,0 +1,10 @@
+//! Runs of the reference machine with probes that watch each step.
+#![tactic(auto)]
+
+mod probing;
+mod rules;
+mod running;
+
+pub use probing::{Counter, Probe};
+pub use rules::{Go, Rule, Weigh};
+pub use running::{RunEnd, run};

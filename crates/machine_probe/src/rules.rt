@@ -1,0 +1,53 @@
+//! What probes count, and how far.
+
+ghost use Rattle.std.specs.Prelude.{◌≡◌};
+ghost use Rattle.machine_probe.specs.Weights.{weight_by};
+
+use arm_isa::Class;
+use arm_machine::Event;
+
+/// What a probe counts.
+#[derive(Clone, Copy, Debug, PartialEq, Eq)]
+pub enum Weigh {
+    /// Steps.
+    Steps,
+    /// Misses of the instruction cache.
+    Misses,
+    /// Cycles.
+    Cycles,
+    /// Steps whose instruction is of this class, also where it was skipped.
+    OfClass(Class),
+}
+
+impl Weigh {
+    /// What an event counts: 1 for a step; 1 for a miss; its cycles; 1 for an instruction of the class, done or
+    /// skipped; else 0. It takes no memory.
+    pub fn of(self, event: &Event) -> u64
+        ensures { result ≡ weight_by self event.now }
+    {
+        match self {
+            Weigh::Steps => 1,
+            Weigh::Misses => u64::from(event.miss),
+            Weigh::Cycles => event.cycles,
+            Weigh::OfClass(class) => u64::from(event.class == class),
+        }
+    }
+}
+
+/// What a probe counts, and the greatest tally with which it lets a run go on.
+#[derive(Clone, Copy, Debug, PartialEq, Eq)]
+pub struct Rule {
+    /// What it counts.
+    pub weigh: Weigh,
+    /// The greatest tally that doesn't stop a run.
+    pub limit: u128,
+}
+
+/// Whether a run may go on.
+#[derive(Clone, Copy, Debug, PartialEq, Eq)]
+pub enum Go {
+    /// It may.
+    On,
+    /// It ends.
+    Stop,
+}

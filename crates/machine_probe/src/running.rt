@@ -1,0 +1,131 @@
+//! Runs of a machine with probes.
+
+ghost use Rattle.std.specs.Prelude.{◌≡◌, ℕ, ◌≤◌, ◌<◌, ◌^◌, List, Option, length, map, All, position};
+ghost use Rattle.std.specs.Option.{option_or};
+ghost use Rattle.arm_machine.specs.Steps.{step};
+ghost use Rattle.arm_machine.specs.declared.events.Event.{Event as EventValue};
+ghost use Rattle.machine_probe.specs.Weights.{HaveRoom, go_by, is_over, place_if, seen};
+ghost use Rattle.machine_probe.specs.ProbedRuns.{Advances, IsReturningRun, Ran};
+
+use crate::probing::Probe;
+use crate::rules::Go;
+use arm_machine::{Event, Machine, StepEnd, Stop};
+
+/// How a run ends.
+#[derive(Clone, Copy, Debug, PartialEq, Eq)]
+pub enum RunEnd {
+    /// The machine stands at the return address, after so many steps of so many cycles together.
+    Returned {
+        /// The steps of this run.
+        steps: u64,
+        /// Their cycles together.
+        cycles: u128,
+    },
+    /// The machine stops.
+    Stopped {
+        /// Why.
+        stop: Stop,
+        /// The address of the instruction that it stops at.
+        address: u32,
+    },
+    /// A probe answered `Stop` to the last event.
+    Halted {
+        /// The least place of such a probe.
+        probe: u32,
+    },
+    /// All steps that were allowed are made.
+    Spent,
+    /// Memory was refused for a step.
+    Memory,
+}
+
+/// Shows an event to a probe.
+fn show_one(probe: &mut Box<dyn Probe>, event: &Event) -> Go
+    requires { (standing probe.old).tally < 2 ^ 127 }
+
+    ensures counts { standing probe.new ≡ seen event.now (standing probe.old) }
+    ensures answers { result ≡ go_by (standing probe.new) }
+{
+    probe.see(event)
+}
+
+/// The least place of a probe that answered `Stop`, after one more answer.
+fn least(halting: Option<u32>, go: Go, place: usize) -> Option<u32>
+    requires { place < 2 ^ 32 }
+    ensures { result ≡ option_or halting (place_if go place) }
+{
+    match (halting, go) {
+        (None, Go::Stop) => Some(place as u32),
+        _ => halting,
+    }
+}
+
+/// Shows an event to all probes, and tells the least place of one that answered `Stop`.
+fn show(probes: &mut Vec<Box<dyn Probe>>, event: &Event) -> Option<u32>
+    requires few { length probes.old.items < 2 ^ 32 }
+    requires small { HaveRoom (map standing probes.old.items) }
+
+    ensures counts { map standing probes.new.items ≡ map (seen event.now) (map standing probes.old.items) }
+    ensures least { result ≡ position is_over (map standing probes.new.items) }
+{
+    let mut halting = None;
+    for (place, probe) in probes.iter_mut().enumerate() {
+        halting = least(halting, show_one(probe, event), place);
+    }
+    halting
+}
+
+/// Makes a step, and shows its event to all probes: what it cost where the run may go on, else how the run ends.
+fn advance(machine: &mut Machine<'_>, probes: &mut Vec<Box<dyn Probe>>) -> Result<u64, RunEnd>
+    requires few { length probes.old.items < 2 ^ 32 }
+    requires small { HaveRoom (map standing probes.old.items) }
+
+    ensures { Advances (step machine.old.image machine.old.timing machine.old.state) machine.old machine.new (map standing probes.old.items) (map standing probes.new.items) result }
+{
+    match machine.step() {
+        Ok(event) => match show(probes, &event) {
+            Some(probe) => Err(RunEnd::Halted { probe }),
+            None => Ok(event.cycles),
+        },
+        Err(StepEnd::Stop(stop)) => Err(RunEnd::Stopped {
+            stop,
+            address: machine.pc(),
+        }),
+        Err(StepEnd::Memory) => Err(RunEnd::Memory),
+    }
+}
+
+/// Runs a machine for at most so many steps, and shows each step's event to all probes, in their order.
+///
+/// There are fewer than 2^32 probes, each with a tally of at most 2^126. Before each step it is tested whether the
+/// machine has returned, and then whether all the steps are made. The run ends at once by an event to which some
+/// probe answers `Stop`, also where its step returned or was the last allowed one; all probes have seen it then. It
+/// takes memory only for what the steps write, and where that is refused the run ends before that step.
+///
+/// What it tells is of this run alone: a second run with the same machine and probes goes on where the first ended.
+pub fn run(machine: &mut Machine<'_>, steps: u64, probes: &mut Vec<Box<dyn Probe>>) -> RunEnd
+    requires few { length probes.old.items < 2 ^ 32 }
+    requires tallies { All (λ b. (standing b).tally ≤ 2 ^ 126) probes.old.items }
+
+    ensures ran { (events : List EventValue) × Ran machine.old machine.new steps (map standing probes.old.items) (map standing probes.new.items) result events }
+    ensures returned { IsReturningRun machine.old result }
+{
+    let mut cycles: u128 = 0;
+    for done in 0..steps {
+        if machine.returned() {
+            return RunEnd::Returned {
+                steps: done,
+                cycles,
+            };
+        }
+        match advance(machine, probes) {
+            Ok(spent) => cycles += u128::from(spent),
+            Err(end) => return end,
+        }
+    }
+    if machine.returned() {
+        RunEnd::Returned { steps, cycles }
+    } else {
+        RunEnd::Spent
+    }
+}
