@@ -1,9 +1,13 @@
--- A list that a loop changes element by element, seen through a function of its elements.
-use Rattle.std.proofs.Common.{◌≡◌, ℕ, zero, suc, ◌+◌, ◌^◌, ◌<◌, ◌≤◌, List, [], ◌∷◌, ◌++◌, length, map, take, drop, set, get_or, refl, sym, ap, ◌∙◌, subst, arith}
-use Rattle.std.specs.List.{All, AllByRecursion}
+-- A list of probes of which one after another is shown an event.
+use Rattle.std.proofs.Common.{◌≡◌, ℕ, zero, suc, ◌+◌, ◌^◌, ◌<◌, ◌≤◌, Bool, true, false, cond, Option, Some, None, List, [], ◌∷◌, ◌++◌, length, map, take, drop, set, get_or, refl, sym, ap, ◌∙◌, add-one, arith}
+use Rattle.std.specs.List.{position}
+use Rattle.std.specs.Option.{option_or}
 use Rattle.std.proofs.lemmas.Grind.{common_steps}
 use Rattle.std.proofs.lemmas.List.{drop-set-lt, map-set, get_or-map}
 use Rattle.std.proofs.Math.Seq.{take-suc, take-suc-set}
+use Rattle.arm_machine.specs.declared.events.Event.{Event}
+use Rattle.machine_probe.specs.Weights.{HaveRoom, Standing, go_by, is_over, place_if, seen}
+use Rattle.machine_probe.proofs.Places.{position_push}
 
 at_front : {B : Type 0} (xs : List B) (i : ℕ) (d : B) → get_or (drop i xs) 0 d ≡ get_or xs i d
 at_front [] zero d = refl
@@ -17,25 +21,87 @@ more [] (suc i) = refl
 more (x ∷ xs) zero = refl
 more (x ∷ xs) (suc i) = more xs i
 
--- what stands at a place behind which nothing was changed
-pub same_at : {B : Type 0} (xs ys : List B) (i : ℕ) (d : B) → drop i xs ≡ drop i ys → get_or xs i d ≡ get_or ys i d
+-- what stands at a place from which on nothing was changed
+same_at : {B : Type 0} (xs ys : List B) (i : ℕ) (d : B) → drop i xs ≡ drop i ys → get_or xs i d ≡ get_or ys i d
 same_at xs ys i d same = sym (at_front xs i d) ∙ ap (λ (l : List _). get_or l 0 d) same ∙ at_front ys i d
 
--- there are as many behind a place
-pub within : {B : Type 0} (xs ys : List B) (i : ℕ) → drop i xs ≡ drop i ys → i < length xs → i < length ys
+within : {B : Type 0} (xs ys : List B) (i : ℕ) → drop i xs ≡ drop i ys → i < length xs → i < length ys
 within xs ys i same lt = grind (arith, common_steps, ap length same)
 
--- those behind the next place are as before
-pub rest_next : {B : Type 0} (xs ys : List B) (i : ℕ) (x : B) → drop i xs ≡ drop i ys → drop (suc i) (set xs i x) ≡ drop (suc i) ys
+rest_next : {B : Type 0} (xs ys : List B) (i : ℕ) (x : B) → drop i xs ≡ drop i ys → drop (suc i) (set xs i x) ≡ drop (suc i) ys
 rest_next xs ys i x same = let lt : i < suc i = omega arith in drop-set-lt (suc i) xs i x lt ∙ more xs i ∙ ap (drop 1) same ∙ sym (more ys i)
 
--- the elements up to the next one are those that they become
-pub done_next : {B X : Type 0} (m n : B → X) (xs ys : List B) (i : ℕ) (x d : B) → take i (map m xs) ≡ take i (map n ys) → drop i xs ≡ drop i ys → i < length xs → m x ≡ n (get_or xs i d) → take (suc i) (map m (set xs i x)) ≡ take (suc i) (map n ys)
+take_next : {B X : Type 0} (n : B → X) (ys : List B) (i : ℕ) (d : B) → i < length ys → take (suc i) (map n ys) ≡ take i (map n ys) ++ n (get_or ys i d) ∷ []
+take_next n ys i d lt =
+    let longer : i < length (map n ys) = grind (arith, common_steps) in
+    take-suc (map n ys) i (n d) longer ∙ ap (λ (y : _). take i (map n ys) ++ y ∷ []) (get_or-map n ys i d (n d) lt)
+
+done_next : {B X : Type 0} (m n : B → X) (xs ys : List B) (i : ℕ) (x d : B) → take i (map m xs) ≡ take i (map n ys) → drop i xs ≡ drop i ys → i < length xs → m x ≡ n (get_or ys i d) → take (suc i) (map m (set xs i x)) ≡ take (suc i) (map n ys)
 done_next m n xs ys i x d done same lt is =
-    let longer : i < length ys = within xs ys i same lt in
-    let ltm : i < length (map m xs) = grind (arith, common_steps) in
-    let lty : i < length (map n ys) = grind (arith, common_steps) in
-    let at : get_or xs i d ≡ get_or ys i d = same_at xs ys i d same in
-    ap (take (suc i)) (map-set m xs i x) ∙ take-suc-set (map m xs) i (m x) ltm ∙ ap (λ (l : List _). l ++ m x ∷ []) done
-    ∙ ap (λ (y : _). take i (map n ys) ++ y ∷ []) (is ∙ ap n at ∙ sym (get_or-map n ys i d (n d) longer))
-    ∙ sym (take-suc (map n ys) i (n d) lty)
+    let longer : i < length (map m xs) = grind (arith, common_steps) in
+    ap (take (suc i)) (map-set m xs i x) ∙ take-suc-set (map m xs) i (m x) longer ∙ ap (λ (l : List _). l ++ m x ∷ []) done
+    ∙ ap (λ (y : _). take i (map n ys) ++ y ∷ []) is
+    ∙ sym (take_next n ys i d (within xs ys i same lt))
+
+place_by : (b : Bool) (p : Standing) (i : ℕ) → is_over p ≡ b → place_if (go_by p) i ≡ cond b (Some i) None
+place_by true p i is = rw is
+place_by false p i is = rw is
+
+-- The probes before a place have seen an event, and those from it on stand where they did; and the least that is over its
+-- limit is told.
+pub record SeenUpTo {B : Type 0} (at : B → Standing) (e : Event) (i : ℕ) (xs ys : List B) (halting : Option ℕ) : Type 0 where
+  pub done : take i (map at xs) ≡ take i (map (λ b. seen e (at b)) ys)
+  pub rest : drop i xs ≡ drop i ys
+  pub least : halting ≡ position is_over (take i (map (λ b. seen e (at b)) ys))
+
+pub none_seen : {B : Type 0} (at : B → Standing) (e : Event) (xs : List B) → SeenUpTo at e 0 xs xs None
+none_seen at e xs = record { done = refl; rest = refl; least = refl }
+
+least_next : {B : Type 0} (at : B → Standing) (e : Event) (i : ℕ) (ys : List B) (halting : Option ℕ) (x d : B) → halting ≡ position is_over (take i (map (λ b. seen e (at b)) ys)) → i < length ys → at x ≡ seen e (at (get_or ys i d)) → option_or halting (place_if (go_by (at x)) i) ≡ position is_over (take (suc i) (map (λ b. seen e (at b)) ys))
+least_next at e i ys halting x d so lt there =
+    let n : _ → Standing = λ b. seen e (at b) in
+    let zs : List Standing = take i (map n ys) in
+    let y : Standing = n (get_or ys i d) in
+    let long : i < length (map n ys) = grind (arith, common_steps) in
+    let many : length zs ≡ i = grind (arith, common_steps) in
+    ap (option_or halting) (place_by (is_over (at x)) (at x) i refl)
+    ∙ ap (λ (o : Option ℕ). option_or o (cond (is_over (at x)) (Some i) None)) so
+    ∙ ap (λ (p : Standing). option_or (position is_over zs) (cond (is_over p) (Some i) None)) there
+    ∙ ap (λ (m : ℕ). option_or (position is_over zs) (cond (is_over y) (Some m) None)) (sym many)
+    ∙ sym (position_push is_over zs y)
+    ∙ ap (position is_over) (sym (take_next n ys i d lt))
+
+pub next_seen : {B : Type 0} (at : B → Standing) (e : Event) (i : ℕ) (xs ys : List B) (halting : Option ℕ) (x d : B) → SeenUpTo at e i xs ys halting → i < length xs → at x ≡ seen e (at (get_or xs i d)) → SeenUpTo at e (i + 1) (set xs i x) ys (option_or halting (place_if (go_by (at x)) i))
+next_seen at e i xs ys halting x d so lt is =
+    let n : _ → Standing = λ b. seen e (at b) in
+    let there : at x ≡ n (get_or ys i d) = is ∙ ap n (same_at xs ys i d so.rest) in
+    rw add-one
+    (record {
+      done = done_next at n xs ys i x d so.done so.rest lt there;
+      rest = rest_next xs ys i x so.rest;
+      least = least_next at e i ys halting x d so.least (within xs ys i so.rest lt) there;
+    })
+
+fused : {B : Type 0} (at : B → Standing) (e : Event) (ys : List B) → map (λ b. seen e (at b)) ys ≡ map (seen e) (map at ys)
+fused at e [] = refl
+fused at e (y ∷ ys) = ap (λ (l : List Standing). seen e (at y) ∷ l) (fused at e ys)
+
+-- In the end all have seen it.
+pub all_seen : {B : Type 0} (at : B → Standing) (e : Event) (i : ℕ) (xs ys : List B) (halting : Option ℕ) → SeenUpTo at e i xs ys halting → length xs ≤ i → length xs ≡ length ys → (map at xs ≡ map (seen e) (map at ys)) × (halting ≡ position is_over (map at xs))
+all_seen at e i xs ys halting so end same =
+    let n : _ → Standing = λ b. seen e (at b) in
+    let all : take i (map at xs) ≡ map at xs = grind (arith, common_steps) in
+    let whole : take i (map n ys) ≡ map n ys = grind (arith, common_steps) in
+    let now : map at xs ≡ map n ys = sym all ∙ so.done ∙ whole in
+    (now ∙ fused at e ys, so.least ∙ ap (position is_over) (whole ∙ sym now))
+
+room : {B : Type 0} (at : B → Standing) (ys : List B) (i : ℕ) (d : B) → HaveRoom (map at ys) → i < length ys → (at (get_or ys i d)).tally < 2 ^ 127
+room at [] i d all lt = absurd (omega arith)
+room at (y ∷ ys) zero d all lt = all.0
+room at (y ∷ ys) (suc i) d all lt = room at ys i d all.1 (omega arith)
+
+-- the next one can count the event
+pub has_room : {B : Type 0} (at : B → Standing) (e : Event) (i : ℕ) (xs ys : List B) (halting : Option ℕ) (d : B) → SeenUpTo at e i xs ys halting → i < length xs → HaveRoom (map at ys) → (at (get_or xs i d)).tally < 2 ^ 127
+has_room at e i xs ys halting d so lt all =
+    let there : at (get_or xs i d) ≡ at (get_or ys i d) = ap at (same_at xs ys i d so.rest) in
+    rw there (room at ys i d all (within xs ys i so.rest lt))

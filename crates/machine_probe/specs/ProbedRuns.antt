@@ -33,37 +33,39 @@ halting probes (e ∷ events) = position is_over (map (after (e ∷ events)) pro
 abbrev pub all_cycles : List Event → ℕ
 all_cycles = sum_by (λ e. e.cycles)
 
--- the end of a run by the step that it tries, if that stops
-abbrev pub stopping : Outcome → ℕ → Option RunEnd
-stopping (Next s e) a = None
-stopping (Stopped stop) a = Some (end.Stopped stop a)
-
--- the end of a run that no probe halts, if it has one: it has returned, it has made all its steps, or the next one stops
-abbrev pub ending_unhalted : Task → List Event → State → Option RunEnd
-ending_unhalted task events s =
-    if s.cpu.pc == home then Some (end.Returned (length events) (all_cycles events))
+-- The end of a run that has made these events and come to this state, where it tries no step: the last event made a probe
+-- halt it, or the machine has returned, or all steps are made. They are tested in this order.
+abbrev pub end_before_step : Task → List Event → State → Option RunEnd
+end_before_step task events s =
+    option_or (option_map (λ place. end.Halted place) (halting task.probes events))
+    (if s.cpu.pc == home then Some (end.Returned (length events) (all_cycles events))
     else if length events == task.steps then Some end.Spent
-    else stopping (task.step s) s.cpu.pc
+    else None)
 
--- The end of a run that has made these events and come to this state, if it ends there: first of all a probe may halt it.
-abbrev pub ending : Task → List Event → State → Option RunEnd
-ending task events s = option_or (option_map (λ place. end.Halted place) (halting task.probes events)) (ending_unhalted task events s)
+-- the end by the step that a run tries, where that stops
+abbrev pub end_by_step : Outcome → ℕ → Option RunEnd
+end_by_step (Next s e) a = None
+end_by_step (Stopped stop) a = Some (end.Stopped stop a)
+
+-- The end of a run that has made these events and come to this state, if it ends there.
+abbrev pub end_after : Task → List Event → State → Option RunEnd
+end_after task events s = option_or (end_before_step task events s) (end_by_step (task.step s) s.cpu.pc)
 
 -- A run that has made the events before and come to s makes these events by the machine's steps, in order, and comes to u.
--- It has no end before any of them.
+-- It has no end before any of these steps.
 abbrev pub Goes : Task → List Event → State → List Event → State → Type 0
 Goes task before s [] u = u ≡ s
 Goes task before s (e ∷ events) u =
-    (ending task before s ≡ None)
+    (end_before_step task before s ≡ None)
     × ((next : State) × (task.step s ≡ Next next e) × Goes task (before ++ e ∷ []) next events u)
 
--- Without an end a run comes to nothing but want of memory.
-abbrev pub EndsBy : Option RunEnd → RunEnd → Type 0
-EndsBy at (end.Returned steps cycles) = at ≡ Some (end.Returned steps cycles)
-EndsBy at (end.Stopped stop address) = at ≡ Some (end.Stopped stop address)
-EndsBy at (end.Halted probe) = at ≡ Some (end.Halted probe)
-EndsBy at end.Spent = at ≡ Some end.Spent
-EndsBy at end.Memory = at ≡ None
+-- A run ends so, where it has made these events and come to this state; for want of memory only at a step that it tries.
+abbrev pub EndsBy : Task → List Event → State → RunEnd → Type 0
+EndsBy task events s (end.Returned steps cycles) = end_after task events s ≡ Some (end.Returned steps cycles)
+EndsBy task events s (end.Stopped stop address) = end_after task events s ≡ Some (end.Stopped stop address)
+EndsBy task events s (end.Halted probe) = end_after task events s ≡ Some (end.Halted probe)
+EndsBy task events s end.Spent = end_after task events s ≡ Some end.Spent
+EndsBy task events s end.Memory = end_before_step task events s ≡ None
 
 abbrev pub task_of : MachineValue → ℕ → List Standing → Task
 task_of m steps probes = record { step = step m.image m.timing; steps = steps; probes = probes }
@@ -73,7 +75,7 @@ pub record Ran (old new : MachineValue) (steps : ℕ) (before now : List Standin
   pub machine : new ≡ record old { state = new.state }
   pub goes : Goes (task_of old steps before) [] old.state events new.state
   pub tallies : now ≡ map (after events) before
-  pub ends : EndsBy (ending (task_of old steps before) events new.state) end
+  pub ends : EndsBy (task_of old steps before) events new.state end
 
 -- a run that has returned is a returning run of the machine, with these steps and cycles
 abbrev pub IsReturningRun : MachineValue → RunEnd → Type 0

@@ -61,12 +61,12 @@ fn least(halting: Option<u32>, go: Go, place: usize) -> Option<u32>
 }
 
 /// Shows an event to all probes, and tells the least place of one that answered `Stop`.
-fn show(probes: &mut Vec<Box<dyn Probe>>, event: &Event) -> Option<u32>
-    requires few { length probes.old.items < 2 ^ 32 }
-    requires small { HaveRoom (map standing probes.old.items) }
+fn show(probes: &mut [Box<dyn Probe>], event: &Event) -> Option<u32>
+    requires few { length probes.old < 2 ^ 32 }
+    requires small { HaveRoom (map standing probes.old) }
 
-    ensures counts { map standing probes.new.items ≡ map (seen event.now) (map standing probes.old.items) }
-    ensures least { result ≡ position is_over (map standing probes.new.items) }
+    ensures counts { map standing probes.new ≡ map (seen event.now) (map standing probes.old) }
+    ensures least { result ≡ position is_over (map standing probes.new) }
 {
     let mut halting = None;
     for (place, probe) in probes.iter_mut().enumerate() {
