@@ -45,9 +45,15 @@ last_step k before s u next e same none on =
 goes_on : (k : Task) (before events : List Event) (s u next : State) (e : Event) → Goes k before s events u → end_before_step k (before ++ events) u ≡ None → k.step u ≡ Next next e → Goes k before s (events ++ e ∷ []) next
 goes_on k before [] s u next e goes none on =
     last_step k before s u next e goes (subst (λ (es : List Event). end_before_step k es u ≡ None) (append-nil before) none) on
-goes_on k before (x ∷ events) s u next e goes none on =
-    (goes.0, (goes.1.0, goes.1.1, goes_on k (before ++ x ∷ []) events goes.1.0 u next e goes.1.2
-    (subst (λ (es : List Event). end_before_step k es u ≡ None) (sym (append_assoc before (x ∷ []) events)) none) on))
+goes_on k before (x ∷ events) s u next e goes none on = (
+  goes.0,
+  (
+    goes.1.0,
+    goes.1.1,
+    goes_on k (before ++ x ∷ []) events goes.1.0 u next e goes.1.2
+        (subst (λ (es : List Event). end_before_step k es u ≡ None) (sym (append_assoc before (x ∷ []) events)) none) on,
+  ),
+)
 
 -- a run is halted by its last event, if at all
 halting_push : (probes : List Standing) (events : List Event) (e : Event) → halting probes (events ++ e ∷ []) ≡ position is_over (map (after (events ++ e ∷ [])) probes)
@@ -91,16 +97,18 @@ pub goes_underway : (old now new : MachineValue) (steps : ℕ) (before probes la
 goes_underway old now new steps before probes later events done spent cost so back left advances =
     let e : Event = advances.0 in
     let shows : Shows (step now.image now.timing now.state) now new probes later e = advances.1 in
-    let next = shown old now new steps before probes later events done spent e so back left shows in
-    (events ++ e ∷ [], record {
-      machine = next.machine;
-      goes = next.goes;
-      tallies = next.tallies;
-      unhalted = next.halting ∙ advances.3;
-      many = let more : length (events ++ e ∷ []) ≡ length events + 1 = grind (arith, common_steps) in more ∙ ap (λ (n : ℕ). n + 1) so.many;
-      cycles = sum_by_push (λ (x : Event). x.cycles) events e ∙ ap (λ (n : ℕ). n + e.cycles) so.cycles ∙ ap (λ (n : ℕ). spent + n) (sym advances.2);
-      short = short_push events e so.short shows.limit;
-    })
+    let next = shown old now new steps before probes later events done spent e so back left shows in (
+      events ++ e ∷ [],
+      record {
+        machine = next.machine;
+        goes = next.goes;
+        tallies = next.tallies;
+        unhalted = next.halting ∙ advances.3;
+        many = let more : length (events ++ e ∷ []) ≡ length events + 1 = grind (arith, common_steps) in more ∙ ap (λ (n : ℕ). n + 1) so.many;
+        cycles = sum_by_push (λ (x : Event). x.cycles) events e ∙ ap (λ (n : ℕ). n + e.cycles) so.cycles ∙ ap (λ (n : ℕ). spent + n) (sym advances.2);
+        short = short_push events e so.short shows.limit;
+      },
+    )
 
 -- the run stays where it is
 ran_here : (old now : MachineValue) (steps : ℕ) (before probes : List Standing) (events : List Event) (done spent : ℕ) (end : RunEnd) → IsUnderway old now steps before probes events done spent → EndsBy (task_of old steps before) events now.state end → Ran old now steps before probes end events
@@ -115,22 +123,26 @@ moved old now new steps before probes later events end same still ran =
 pub ends_by_step : (old now new : MachineValue) (steps : ℕ) (before probes later : List Standing) (events : List Event) (done spent : ℕ) (why : RunEnd) → IsUnderway old now steps before probes events done spent → (now.state.cpu.pc == home) ≡ false → done < steps → Advances (step now.image now.timing now.state) now new probes later (Err why) → (es : List Event) × Ran old new steps before later why es
 ends_by_step old now new steps before probes later events done spent (end.Halted place) so back left advances =
     let e : Event = advances.0 in
-    let next = shown old now new steps before probes later events done spent e so back left advances.1 in
-    (events ++ e ∷ [], record {
-      machine = next.machine;
-      goes = next.goes;
-      tallies = next.tallies;
-      ends = end_halted (task_of old steps before) (events ++ e ∷ []) new.state place (next.halting ∙ advances.2);
-    })
+    let next = shown old now new steps before probes later events done spent e so back left advances.1 in (
+      events ++ e ∷ [],
+      record {
+        machine = next.machine;
+        goes = next.goes;
+        tallies = next.tallies;
+        ends = end_halted (task_of old steps before) (events ++ e ∷ []) new.state place (next.halting ∙ advances.2);
+      },
+    )
 ends_by_step old now new steps before probes later events done spent (end.Stopped stop a) so back left advances =
     let unspent : (length events == steps) ≡ false = ne_eqb (length events) steps (omega (arith, so.many)) in
     let stops : step old.image old.timing now.state ≡ Stopped stop = subst (λ (m : MachineValue). step m.image m.timing now.state ≡ Stopped stop) so.machine advances.0 in
     let ends : end_after (task_of old steps before) events now.state ≡ Some (end.Stopped stop a) = end_stopped (task_of old steps before) events now.state stop so.unhalted back unspent stops ∙ ap (λ (n : ℕ). Some (end.Stopped stop n)) (sym advances.1) in
     (events, moved old now new steps before probes later events (end.Stopped stop a) advances.2 advances.3 (ran_here old now steps before probes events done spent (end.Stopped stop a) so ends))
 ends_by_step old now new steps before probes later events done spent end.Memory so back left advances =
-    let unspent : (length events == steps) ≡ false = ne_eqb (length events) steps (omega (arith, so.many)) in
-    (events, moved old now new steps before probes later events end.Memory advances.0 advances.1
-    (ran_here old now steps before probes events done spent end.Memory so (tries (task_of old steps before) events now.state so.unhalted back unspent)))
+    let unspent : (length events == steps) ≡ false = ne_eqb (length events) steps (omega (arith, so.many)) in (
+      events,
+      moved old now new steps before probes later events end.Memory advances.0 advances.1
+          (ran_here old now steps before probes events done spent end.Memory so (tries (task_of old steps before) events now.state so.unhalted back unspent)),
+    )
 ends_by_step old now new steps before probes later events done spent (end.Returned n c) so back left advances = absurd advances
 ends_by_step old now new steps before probes later events done spent end.Spent so back left advances = absurd advances
 
@@ -152,10 +164,11 @@ goes_home : (image : ImageValue) (t : Timing) (steps : ℕ) (probes : List Stand
 goes_home image t steps probes before [] s u goes is = (subst (λ (v : State). v.cpu.pc ≡ home) goes is, refl)
 goes_home image t steps probes before (e ∷ events) s u goes is =
     let k : Task = record { step = step image t; steps = steps; probes = probes } in
-    let rest = goes_home image t steps probes (before ++ e ∷ []) events goes.1.0 u goes.1.2 is in
-    (away k before s goes.0,
-    subst (λ (o : Outcome). IfNext o (λ next spent. (left : ℕ) × (all_cycles (e ∷ events) ≡ spent + left) × Returns image t home next (length events) left)) (sym goes.1.1)
-    (all_cycles events, sum_by-cons (λ (x : Event). x.cycles) e events, rest))
+    let rest = goes_home image t steps probes (before ++ e ∷ []) events goes.1.0 u goes.1.2 is in (
+      away k before s goes.0,
+      subst (λ (o : Outcome). IfNext o (λ next spent. (left : ℕ) × (all_cycles (e ∷ events) ≡ spent + left) × Returns image t home next (length events) left)) (sym goes.1.1)
+          (all_cycles events, sum_by-cons (λ (x : Event). x.cycles) e events, rest),
+    )
 
 returned_by : (h : Option ℕ) (b spent : Bool) (len cyc a : ℕ) (o : Outcome) (n c : ℕ) → option_or (option_or (option_map (λ place. end.Halted place) h) (cond b (Some (end.Returned len cyc)) (cond spent (Some end.Spent) None))) (end_by_step o a) ≡ Some (end.Returned n c) → (b ≡ true) × (len ≡ n) × (cyc ≡ c)
 returned_by (Some place) b spent len cyc a o n c is = cc

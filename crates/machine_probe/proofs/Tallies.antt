@@ -1,7 +1,10 @@
 -- What probes have counted after some events.
-use Rattle.std.proofs.Common.{◌≡◌, ℕ, zero, suc, ◌+◌, ◌*◌, ◌^◌, ◌<◌, ◌≤◌, Bool, true, false, cond, List, [], ◌∷◌, ◌++◌, length, map, get_or, refl, sym, ap, ◌∙◌, subst, add-zero, add_assoc, arith}
+use Rattle.std.proofs.Common.{◌≡◌, ℕ, zero, suc, ◌+◌, ◌*◌, ◌^◌, ◌<◌, ◌≤◌, Bool, true, false, cond, List, [], ◌∷◌, ◌++◌, length, map, take, get_or, refl, sym, ap, ◌∙◌, subst, add-one, add-zero, add_assoc, arith}
 use Rattle.std.specs.List.{All, AllByRecursion, sum_by}
+use Rattle.std.proofs.lemmas.Grind.{common_steps}
+use Rattle.std.proofs.lemmas.List.Elements.{All-push}
 use Rattle.std.proofs.lemmas.List.Sums.{sum_by-cons, sum_by_push}
+use Rattle.std.proofs.Math.Seq.{take-suc}
 use Rattle.arm_machine.specs.declared.events.Event.{Event}
 use Rattle.machine_probe.specs.declared.rules.Rule.{Rule}
 use Rattle.machine_probe.specs.declared.rules.Weigh.{Weigh}
@@ -73,3 +76,10 @@ pub small_at : {B : Type 0} (m : B → Standing) (limit : ℕ) (xs : List B) (i 
 small_at m limit [] i d all lt = absurd (omega arith)
 small_at m limit (x ∷ xs) zero d all lt = all.0
 small_at m limit (x ∷ xs) (suc i) d all lt = small_at m limit xs i d all.1 (omega arith)
+
+-- what holds of the first elements of a list and of the next one holds of one more
+pub all_next : {B : Type 0} (P : B → Type 0) (xs : List B) (i : ℕ) (x : B) → x ≡ get_or xs i x → All P (take i xs) → i < length xs → P x → All P (take (i + 1) xs)
+all_next P xs i x is all lt one = rw (add-one, take-suc xs i x lt) (All-push P (take i xs) (get_or xs i x) all (subst P is one))
+
+pub all_taken : {B : Type 0} (P : B → Type 0) (xs : List B) (i : ℕ) → All P (take i xs) → length xs ≤ i → All P xs
+all_taken P xs i all end = let whole : take i xs ≡ xs = grind (arith, common_steps) in subst (λ (l : List _). All P l) whole all

@@ -8,3 +8,6 @@ mod running;
 pub use probing::{Counter, Probe};
 pub use rules::{Go, Rule, Weigh};
 pub use running::{RunEnd, run};
+
+#[cfg(test)]
+mod tests;
