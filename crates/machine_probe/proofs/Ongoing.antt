@@ -1,6 +1,6 @@
 -- How a run goes on, and how it ends.
-use Rattle.std.proofs.Common.{◌≡◌, ℕ, zero, suc, ◌+◌, ◌*◌, ◌^◌, ◌<◌, ◌≤◌, ◌==◌, Bool, true, false, cond, Option, Some, None, List, [], ◌∷◌, ◌++◌, length, map, Result, Ok, Err, refl, sym, ap, ◌∙◌, subst, eq-eqb, arith, append_assoc, append-nil}
-use Rattle.std.specs.List.{All, AllByRecursion, position, sum_by}
+use Rattle.std.proofs.Common.{◌≡◌, ℕ, ◌+◌, ◌*◌, ◌^◌, ◌<◌, ◌≤◌, ◌==◌, Bool, true, false, cond, Option, Some, None, List, [], ◌∷◌, ◌++◌, length, map, Ok, Err, refl, sym, ap, ◌∙◌, subst, eq-eqb, arith, append_assoc, append-nil}
+use Rattle.std.specs.List.{All, AllByRecursion, position}
 use Rattle.std.specs.Option.{option_or, option_map}
 use Rattle.std.proofs.lemmas.Bool.{eqb-true, ne_eqb}
 use Rattle.std.proofs.lemmas.Grind.{common_steps}
@@ -17,7 +17,7 @@ use Rattle.arm_machine.specs.Steps.Outcome.{Next, Stopped}
 use Rattle.machine_probe.specs.declared.running.RunEnd.{RunEnd}
 use Rattle.machine_probe.specs.declared.running.RunEnd.TheVariants as end
 use Rattle.machine_probe.specs.declared.rules.Weigh.TheVariants as weigh
-use Rattle.machine_probe.specs.Weights.{HaveRoom, Standing, is_over, seen, weight_by}
+use Rattle.machine_probe.specs.Weights.{HaveRoom, Standing, is_over, seen}
 use Rattle.machine_probe.specs.ProbedRuns.{Advances, EndsBy, Goes, IsReturningRun, Ran, Shows, Task, after, all_cycles, end_after, end_before_step, end_by_step, halting, task_of}
 use Rattle.machine_probe.proofs.Tallies.{IsShort, after_next, after_none, all_seen, short_push, small_after, sum_limit}
 

@@ -1,9 +1,7 @@
 -- Runs that probes watch.
-use Rattle.std.specs.Prelude.{◌≡◌, ℕ, ◌+◌, ◌==◌, ◌<◌, ◌≤◌, if◌then◌else◌, List, [], ◌∷◌, ◌++◌, length, map, position, Option, Some, None, option_map, Result, Ok, Err}
+use Rattle.std.specs.Prelude.{◌≡◌, ℕ, ◌+◌, ◌==◌, ◌≤◌, if◌then◌else◌, List, [], ◌∷◌, ◌++◌, length, map, position, Option, Some, None, option_map, Result, Ok, Err}
 use Rattle.std.specs.List.{sum_by}
 use Rattle.std.specs.Option.{option_or}
-use Rattle.elf32_image.specs.Parts.{ImageValue}
-use Rattle.fetch_timing.specs.declared.timing.Timing.{Timing}
 use Rattle.arm_machine.specs.declared.events.Event.{Event}
 use Rattle.arm_machine.specs.Machines.{MachineValue}
 use Rattle.arm_machine.specs.Runs.{Returns}

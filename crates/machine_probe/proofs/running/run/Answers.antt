@@ -1,4 +1,4 @@
-use Rattle.std.proofs.Common.{◌≡◌, ℕ, ◌+◌, ◌*◌, ◌≤◌, ◌∙◌, sym, length, map, arith}
+use Rattle.std.proofs.Common.{◌≡◌, ◌∙◌, sym, arith}
 use Rattle.machine_probe.proofs.Ongoing.{as_many, begins, ends_by_step, few_cycles, goes_underway, ran_returns, returned_now, room_underway}
 use Rattle.machine_probe.proofs.running.run.Goals as goal
 

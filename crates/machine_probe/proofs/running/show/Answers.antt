@@ -1,4 +1,4 @@
-use Rattle.std.proofs.Common.{◌<◌, ◌≤◌, length, arith}
+use Rattle.std.proofs.Common.{arith}
 use Rattle.machine_probe.proofs.Showing.{all_seen, has_room, next_seen}
 use Rattle.machine_probe.proofs.running.show.Goals as goal
 
