@@ -1,0 +1,118 @@
+//! Runs a counted loop: `bench_run HOW TURNS`, where HOW is `bare` for the machine's steps alone or `probes` for
+//! a run that two counters watch.
+//!
+//! The loop takes 4 steps a turn, all of them out of the cache. What is printed, the steps and their cycles, keeps
+//! the work from being left out; a script takes the time.
+#![tactic(auto)]
+
+ghost use Rattle.std.specs.Prelude.{◌≡◌, ◌≤◌, ◌<◌, ◌^◌, true, All, length};
+
+use anyhow::bail;
+use arm_machine::{Machine, RegisterValue};
+use elf32_image::read_image;
+use fetch_timing::Timing;
+use machine_probe::{Counter, Probe, Rule, RunEnd, Weigh, run};
+use std::env;
+
+/// An ELF32 ARM executable with one segment at 0x8000: MOV r1,#0; CMP r1,r0; BGE behind the loop; ADD r1,r1,#1; B back
+/// to CMP; BX r14.
+static FILE: [u8; 108] = [
+    0x7f, 0x45, 0x4c, 0x46, 0x01, 0x01, 0x01, 0x00, 0x00, 0x00, 0x00, 0x00, 0x00, 0x00, 0x00, 0x00,
+    0x02, 0x00, 0x28, 0x00, 0x01, 0x00, 0x00, 0x00, 0x00, 0x80, 0x00, 0x00, 0x34, 0x00, 0x00, 0x00,
+    0x00, 0x00, 0x00, 0x00, 0x00, 0x00, 0x00, 0x00, 0x34, 0x00, 0x20, 0x00, 0x01, 0x00, 0x00, 0x00,
+    0x00, 0x00, 0x00, 0x00, 0x01, 0x00, 0x00, 0x00, 0x54, 0x00, 0x00, 0x00, 0x00, 0x80, 0x00, 0x00,
+    0x00, 0x80, 0x00, 0x00, 0x18, 0x00, 0x00, 0x00, 0x18, 0x00, 0x00, 0x00, 0x05, 0x00, 0x00, 0x00,
+    0x04, 0x00, 0x00, 0x00, 0x00, 0x10, 0xa0, 0xe3, 0x00, 0x00, 0x51, 0xe1, 0x01, 0x00, 0x00, 0xaa,
+    0x01, 0x10, 0x81, 0xe2, 0xfb, 0xff, 0xff, 0xea, 0x1e, 0xff, 0x2f, 0xe1,
+];
+
+/// The greatest tally with which a run may begin.
+const MOST: u128 = 1 << 126;
+
+/// The steps of a machine until it returns, and their cycles.
+fn bare(machine: &mut Machine<'_>) -> anyhow::Result<(u64, u64)> {
+    let mut steps = 0u64;
+    let mut cycles = 0u64;
+    for _ in 0..u64::MAX {
+        if machine.returned() {
+            break;
+        }
+        let Ok(event) = machine.step() else {
+            bail!("the machine stops");
+        };
+        steps = steps.wrapping_add(1);
+        cycles = cycles.wrapping_add(event.cycles);
+    }
+    Ok((steps, cycles))
+}
+
+/// Whether a probe may be shown a run.
+fn is_ready(probe: &Box<dyn Probe>) -> bool
+    ensures { result ≡ true → (standing probe.now).tally ≤ 2 ^ 126 }
+{
+    probe.tally() <= MOST
+}
+
+/// Whether a run may begin with these probes.
+fn are_ready(probes: &[Box<dyn Probe>]) -> bool
+    ensures few { result ≡ true → length probes.now < 2 ^ 32 }
+    ensures small { result ≡ true → All (λ b. (standing b).tally ≤ 2 ^ 126) probes.now }
+{
+    for probe in probes {
+        if !is_ready(probe) {
+            return false;
+        }
+    }
+    probes.len() < 1 << 32
+}
+
+/// A counter without a limit.
+fn counter(weigh: Weigh) -> Counter {
+    Counter::new(Rule {
+        weigh,
+        limit: u128::MAX,
+    })
+}
+
+/// A run with probes that are ready.
+fn watched(machine: &mut Machine<'_>, probes: &mut Vec<Box<dyn Probe>>) -> Option<RunEnd> {
+    if are_ready(probes) {
+        Some(run(machine, u64::MAX, probes))
+    } else {
+        None
+    }
+}
+
+fn main(rt: HostRuntime) -> anyhow::Result<()> {
+    let alloc = rt.alloc();
+    let mut words = env::args(&rt)?.skip(1);
+    let (Some(how), Some(turns)) = (words.next(), words.next()) else {
+        bail!("usage: bench_run HOW TURNS");
+    };
+    let Ok(turns) = turns.parse::<i32>() else {
+        bail!("bad number of turns");
+    };
+    let image = read_image(alloc, &FILE)?;
+    let timing = Timing::unit();
+    let values = [RegisterValue {
+        register: 0,
+        value: turns,
+    }];
+    let mut machine = Machine::start(alloc, &image, &timing, 0x8000, 0x2000_0000, 4096, &values)?;
+    if how.as_str() == "bare" {
+        let (steps, cycles) = bare(&mut machine)?;
+        println!(rt; "{steps} {cycles}")?;
+        return Ok(());
+    }
+    let mut probes: Vec<Box<dyn Probe>> = Vec::new(alloc);
+    probes.push(Box::new(alloc, counter(Weigh::Steps))?)?;
+    probes.push(Box::new(alloc, counter(Weigh::Misses))?)?;
+    let Some(RunEnd::Returned { steps, cycles }) = watched(&mut machine, &mut probes) else {
+        bail!("the run doesn't return");
+    };
+    println!(rt; "{steps} {cycles}")?;
+    for probe in &probes {
+        println!(rt; "{}", probe.tally())?;
+    }
+    Ok(())
+}
