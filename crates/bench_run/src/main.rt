@@ -5,7 +5,7 @@
 //! the work from being left out; a script takes the time.
 #![tactic(auto)]
 
-ghost use Rattle.std.specs.Prelude.{◌≡◌, ◌≤◌, ◌<◌, ◌^◌, true, All, length};
+ghost use Rattle.std.specs.Prelude.{◌≡◌};
 
 use anyhow::bail;
 use arm_machine::{Machine, RegisterValue};
@@ -26,9 +26,6 @@ static FILE: [u8; 108] = [
     0x01, 0x10, 0x81, 0xe2, 0xfb, 0xff, 0xff, 0xea, 0x1e, 0xff, 0x2f, 0xe1,
 ];
 
-/// The greatest tally with which a run may begin.
-const MOST: u128 = 1 << 126;
-
 /// The steps of a machine until it returns, and their cycles.
 fn bare(machine: &mut Machine<'_>) -> anyhow::Result<(u64, u64)> {
     let mut steps = 0u64;
@@ -46,41 +43,14 @@ fn bare(machine: &mut Machine<'_>) -> anyhow::Result<(u64, u64)> {
     Ok((steps, cycles))
 }
 
-/// Whether a probe may be shown a run.
-fn is_ready(probe: &Box<dyn Probe>) -> bool
-    ensures { result ≡ true → (standing probe.now).tally ≤ 2 ^ 126 }
-{
-    probe.tally() <= MOST
-}
-
-/// Whether a run may begin with these probes.
-fn are_ready(probes: &[Box<dyn Probe>]) -> bool
-    ensures few { result ≡ true → length probes.now < 2 ^ 32 }
-    ensures small { result ≡ true → All (λ b. (standing b).tally ≤ 2 ^ 126) probes.now }
-{
-    for probe in probes {
-        if !is_ready(probe) {
-            return false;
-        }
-    }
-    probes.len() < 1 << 32
-}
-
 /// A counter without a limit.
-fn counter(weigh: Weigh) -> Counter {
+fn counter(weigh: Weigh) -> Counter
+    ensures { result.tally ≡ 0 }
+{
     Counter::new(Rule {
         weigh,
         limit: u128::MAX,
     })
-}
-
-/// A run with probes that are ready.
-fn watched(machine: &mut Machine<'_>, probes: &mut Vec<Box<dyn Probe>>) -> Option<RunEnd> {
-    if are_ready(probes) {
-        Some(run(machine, u64::MAX, probes))
-    } else {
-        None
-    }
 }
 
 fn main(rt: HostRuntime) -> anyhow::Result<()> {
@@ -107,7 +77,7 @@ fn main(rt: HostRuntime) -> anyhow::Result<()> {
     let mut probes: Vec<Box<dyn Probe>> = Vec::new(alloc);
     probes.push(Box::new(alloc, counter(Weigh::Steps))?)?;
     probes.push(Box::new(alloc, counter(Weigh::Misses))?)?;
-    let Some(RunEnd::Returned { steps, cycles }) = watched(&mut machine, &mut probes) else {
+    let RunEnd::Returned { steps, cycles } = run(&mut machine, u64::MAX, &mut probes) else {
         bail!("the run doesn't return");
     };
     println!(rt; "{steps} {cycles}")?;

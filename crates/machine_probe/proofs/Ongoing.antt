@@ -1,6 +1,6 @@
 -- How a run goes on, and how it ends.
 use Rattle.std.proofs.Common.{◌≡◌, ℕ, ◌+◌, ◌*◌, ◌^◌, ◌<◌, ◌≤◌, ◌==◌, Bool, true, false, cond, Option, Some, None, List, [], ◌∷◌, ◌++◌, length, map, Ok, Err, refl, sym, ap, ◌∙◌, subst, eq-eqb, arith, append_assoc, append-nil}
-use Rattle.std.specs.List.{All, AllByRecursion, position}
+use Rattle.std.specs.List.{AllByRecursion, position}
 use Rattle.std.specs.Option.{option_or, option_map}
 use Rattle.std.proofs.lemmas.Bool.{eqb-true, ne_eqb}
 use Rattle.std.proofs.lemmas.Grind.{common_steps}
@@ -17,9 +17,9 @@ use Rattle.arm_machine.specs.Steps.Outcome.{Next, Stopped}
 use Rattle.machine_probe.specs.declared.running.RunEnd.{RunEnd}
 use Rattle.machine_probe.specs.declared.running.RunEnd.TheVariants as end
 use Rattle.machine_probe.specs.declared.rules.Weigh.TheVariants as weigh
-use Rattle.machine_probe.specs.Weights.{HaveRoom, Standing, is_over, seen}
+use Rattle.machine_probe.specs.Weights.{AreReady, HaveRoom, Standing, is_over, seen}
 use Rattle.machine_probe.specs.ProbedRuns.{Advances, EndsBy, Goes, IsReturningRun, Ran, Shows, Task, after, all_cycles, end_after, end_before_step, end_by_step, halting, task_of}
-use Rattle.machine_probe.proofs.Tallies.{IsShort, after_next, after_none, all_seen, short_push, small_after, sum_limit}
+use Rattle.machine_probe.proofs.Tallies.{IsShort, after_next, after_none, short_push, small_after, sum_limit}
 
 -- a run tries a step where no probe halts it, the machine hasn't returned, and steps are left
 tries : (k : Task) (events : List Event) (s : State) → halting k.probes events ≡ None → (s.cpu.pc == home) ≡ false → (length events == k.steps) ≡ false → end_before_step k events s ≡ None
@@ -197,9 +197,8 @@ returned_now old now steps before probes events done spent so back =
     (end_returned (task_of old steps before) events now.state so.unhalted back ∙ ap (λ (n : ℕ). Some (end.Returned n (all_cycles events))) so.many ∙ ap (λ (n : ℕ). Some (end.Returned done n)) so.cycles)
 
 -- the probes of a run can count one event more
-pub room_underway : {B : Type 0} (at : B → Standing) (old now : MachineValue) (steps : ℕ) (xs ys : List B) (events : List Event) (done spent : ℕ) → IsUnderway old now steps (map at xs) (map at ys) events done spent → done < 2 ^ 64 → All (λ b. (at b).tally ≤ 2 ^ 126) xs → HaveRoom (map at ys)
-room_underway at old now steps xs ys events done spent so few small =
-    rw so.tallies (small_after events (map at xs) so.short (omega (arith, so.many)) (all_seen at (2 ^ 126) xs small))
+pub room_underway : {B : Type 0} (at : B → Standing) (old now : MachineValue) (steps : ℕ) (xs ys : List B) (events : List Event) (done spent : ℕ) → IsUnderway old now steps (map at xs) (map at ys) events done spent → done < 2 ^ 64 → AreReady (map at xs) → HaveRoom (map at ys)
+room_underway at old now steps xs ys events done spent so few ready = rw so.tallies (small_after events (map at xs) so.short (omega (arith, so.many)) ready)
 
 pub as_many : {B : Type 0} (at : B → Standing) (old now : MachineValue) (steps : ℕ) (xs ys : List B) (events : List Event) (done spent : ℕ) → IsUnderway old now steps (map at xs) (map at ys) events done spent → length ys ≡ length xs
 as_many at old now steps xs ys events done spent so = grind (arith, common_steps, ap length so.tallies)

@@ -1,15 +1,14 @@
 -- What probes have counted after some events.
-use Rattle.std.proofs.Common.{◌≡◌, ℕ, zero, suc, ◌+◌, ◌*◌, ◌^◌, ◌<◌, ◌≤◌, Bool, true, false, cond, List, [], ◌∷◌, ◌++◌, length, map, take, get_or, refl, sym, subst, add-one, add-zero, arith}
-use Rattle.std.specs.List.{All, AllByRecursion, sum_by}
+use Rattle.std.proofs.Common.{◌≡◌, ℕ, zero, suc, ◌+◌, ◌*◌, ◌^◌, ◌<◌, ◌≤◌, Bool, true, false, cond, List, [], ◌∷◌, ◌++◌, length, map, take, get_or, refl, sym, ap, subst, add-one, add-zero, arith}
+use Rattle.std.specs.List.{AllByRecursion, sum_by}
 use Rattle.std.proofs.lemmas.Grind.{common_steps}
-use Rattle.std.proofs.lemmas.List.Elements.{All-push}
 use Rattle.std.proofs.lemmas.List.Sums.{sum_by-cons, sum_by_push}
 use Rattle.std.proofs.Math.Seq.{take-suc}
 use Rattle.arm_machine.specs.declared.events.Event.{Event}
 use Rattle.machine_probe.specs.declared.rules.Rule.{Rule}
 use Rattle.machine_probe.specs.declared.rules.Weigh.{Weigh}
 use Rattle.machine_probe.specs.declared.rules.Weigh.TheVariants as weigh
-use Rattle.machine_probe.specs.Weights.{Standing, is_of, seen, weight_by}
+use Rattle.machine_probe.specs.Weights.{AreReady, Standing, is_of, seen, weight_by}
 use Rattle.machine_probe.specs.ProbedRuns.{after}
 
 -- an event costs no more cycles than a step may
@@ -58,28 +57,26 @@ after_next events e (p ∷ ps) =
     (map (seen e) (map (after events) ps)) (map (after (events ++ e ∷ [])) ps) sums (after_next events e ps)
 
 -- no tally grows too great in a run
-pub small_after : (events : List Event) (ps : List Standing) → AllByRecursion IsShort events → length events < 2 ^ 64 → AllByRecursion (λ p. p.tally ≤ 2 ^ 126) ps → AllByRecursion (λ p. p.tally < 2 ^ 127) (map (after events) ps)
+pub small_after : (events : List Event) (ps : List Standing) → AllByRecursion IsShort events → length events < 2 ^ 64 → AreReady ps → AllByRecursion (λ p. p.tally < 2 ^ 127) (map (after events) ps)
 small_after events [] short few small = tt
 small_after events (p ∷ ps) short few small =
     let first : p.tally ≤ 2 ^ 126 = small.0 in
     let sums = sum_limit p.rule.weigh events short in
     (omega (arith, first, sums), small_after events ps short few small.1)
 
--- what holds of each element of a list that is seen through a function holds of the list that the function makes
-pub all_seen : {B : Type 0} (m : B → Standing) (limit : ℕ) (xs : List B) → All (λ b. (m b).tally ≤ limit) xs → AllByRecursion (λ p. p.tally ≤ limit) (map m xs)
-all_seen m limit [] all = tt
-all_seen m limit (x ∷ xs) all =
-    (all 0 x (omega arith), all_seen m limit xs (λ k d lt. all (suc k) d (omega arith)))
+ready_push : (ps : List Standing) (p : Standing) → AreReady ps → p.tally ≤ 2 ^ 126 → AreReady (ps ++ p ∷ [])
+ready_push [] p ready one = (one, tt)
+ready_push (q ∷ ps) p ready one = (ready.0, ready_push ps p ready.1 one)
 
--- and the other way round, at one place
-pub small_at : {B : Type 0} (m : B → Standing) (limit : ℕ) (xs : List B) (i : ℕ) (d : B) → AllByRecursion (λ p. p.tally < limit) (map m xs) → i < length xs → (m (get_or xs i d)).tally < limit
-small_at m limit [] i d all lt = absurd (omega arith)
-small_at m limit (x ∷ xs) zero d all lt = all.0
-small_at m limit (x ∷ xs) (suc i) d all lt = small_at m limit xs i d all.1 (omega arith)
+map_push : {B : Type 0} (at : B → Standing) (xs : List B) (x : B) → map at (xs ++ x ∷ []) ≡ map at xs ++ at x ∷ []
+map_push at [] x = refl
+map_push at (y ∷ xs) x = ap (λ (l : List Standing). at y ∷ l) (map_push at xs x)
 
--- what holds of the first elements of a list and of the next one holds of one more
-pub all_next : {B : Type 0} (P : B → Type 0) (xs : List B) (i : ℕ) (x : B) → x ≡ get_or xs i x → All P (take i xs) → i < length xs → P x → All P (take (i + 1) xs)
-all_next P xs i x is all lt one = rw (add-one, take-suc xs i x lt) (All-push P (take i xs) (get_or xs i x) all (subst P is one))
+-- where the first probes of a list are ready and the next one is, one more is
+pub ready_next : {B : Type 0} (at : B → Standing) (xs : List B) (i : ℕ) (x : B) → x ≡ get_or xs i x → AreReady (map at (take i xs)) → i < length xs → (at x).tally ≤ 2 ^ 126 → AreReady (map at (take (i + 1) xs))
+ready_next at xs i x is ready lt one =
+    rw (add-one, take-suc xs i x lt, map_push at (take i xs) (get_or xs i x))
+    (ready_push (map at (take i xs)) (at (get_or xs i x)) ready (subst (λ (y : _). (at y).tally ≤ 2 ^ 126) is one))
 
-pub all_taken : {B : Type 0} (P : B → Type 0) (xs : List B) (i : ℕ) → All P (take i xs) → length xs ≤ i → All P xs
-all_taken P xs i all end = let whole : take i xs ≡ xs = grind (arith, common_steps) in subst (λ (l : List _). All P l) whole all
+pub all_ready : {B : Type 0} (at : B → Standing) (xs : List B) (i : ℕ) → AreReady (map at (take i xs)) → length xs ≤ i → AreReady (map at xs)
+all_ready at xs i ready end = let whole : take i xs ≡ xs = grind (arith, common_steps) in subst (λ (l : List _). AreReady (map at l)) whole ready

@@ -1,5 +1,5 @@
 -- What probes count of the events that they see.
-use Rattle.std.specs.Prelude.{ℕ, ◌+◌, ◌<◌, ◌==◌, ◌^◌, Bool, if◌then◌else◌, nat_lt, Option, Some, None, List}
+use Rattle.std.specs.Prelude.{ℕ, ◌+◌, ◌<◌, ◌≤◌, ◌==◌, ◌^◌, Bool, if◌then◌else◌, nat_lt, Option, Some, None, List}
 use Rattle.std.specs.List.{AllByRecursion}
 use Rattle.arm_isa.specs.declared.instruction.Class.{Class}
 use Rattle.fetch_timing.specs.Timings.{class_place}
@@ -46,3 +46,7 @@ place_if go.Stop place = Some place
 -- each can count one event more
 abbrev pub HaveRoom : List Standing → Type 0
 HaveRoom ps = AllByRecursion (λ p. p.tally < 2 ^ 127) ps
+
+-- with these a run may begin
+abbrev pub AreReady : List Standing → Type 0
+AreReady ps = AllByRecursion (λ p. p.tally ≤ 2 ^ 126) ps

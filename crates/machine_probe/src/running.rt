@@ -1,10 +1,10 @@
 //! Runs of a machine with probes.
 
-ghost use Rattle.std.specs.Prelude.{◌≡◌, ℕ, ◌≤◌, ◌<◌, ◌^◌, List, Option, length, map, All, position};
+ghost use Rattle.std.specs.Prelude.{◌≡◌, ◌<◌, ◌^◌, List, length, map, position};
 ghost use Rattle.std.specs.Option.{option_or};
 ghost use Rattle.arm_machine.specs.Steps.{step};
 ghost use Rattle.arm_machine.specs.declared.events.Event.{Event as EventValue};
-ghost use Rattle.machine_probe.specs.Weights.{HaveRoom, go_by, is_over, place_if, seen};
+ghost use Rattle.machine_probe.specs.Weights.{AreReady, HaveRoom, go_by, is_over, place_if, seen};
 ghost use Rattle.machine_probe.specs.ProbedRuns.{Advances, IsReturningRun, Ran};
 
 use crate::probing::Probe;
@@ -105,7 +105,7 @@ fn advance(machine: &mut Machine<'_>, probes: &mut Vec<Box<dyn Probe>>) -> Resul
 /// What it tells is of this run alone: a second run with the same machine and probes goes on where the first ended.
 pub fn run(machine: &mut Machine<'_>, steps: u64, probes: &mut Vec<Box<dyn Probe>>) -> RunEnd
     requires few { length probes.old.items < 2 ^ 32 }
-    requires tallies { All (λ b. (standing b).tally ≤ 2 ^ 126) probes.old.items }
+    requires tallies { AreReady (map standing probes.old.items) }
 
     ensures ran { (events : List EventValue) × Ran machine.old machine.new steps (map standing probes.old.items) (map standing probes.new.items) result events }
     ensures returned { IsReturningRun machine.old result }

@@ -1,6 +1,7 @@
 //! Runs of three functions, with probes.
 
-ghost use Rattle.std.specs.Prelude.{◌≡◌, ◌-◌, ◌≤◌, ◌<◌, ◌^◌, true, All, length};
+ghost use Rattle.std.specs.Prelude.{◌≡◌, ◌-◌, ◌≤◌, ◌<◌, ◌^◌, true, length, map};
+ghost use Rattle.machine_probe.specs.Weights.{AreReady};
 
 use super::*;
 use Weigh::{Cycles, Misses, OfClass, Steps};
@@ -98,7 +99,7 @@ fn is_ready(probe: &Box<dyn Probe>) -> bool
 /// Whether a run may begin with these probes.
 fn are_ready(probes: &[Box<dyn Probe>]) -> bool
     ensures few { result ≡ true → length probes.now < 2 ^ 32 }
-    ensures small { result ≡ true → All (λ b. (standing b).tally ≤ 2 ^ 126) probes.now }
+    ensures small { result ≡ true → AreReady (map standing probes.now) }
 {
     for probe in probes {
         if !is_ready(probe) {

@@ -1,13 +1,12 @@
-use Rattle.std.proofs.Common.{◌≤◌, ◌^◌}
-use Rattle.machine_probe.proofs.Tallies.{all_next, all_taken}
+use Rattle.machine_probe.proofs.Tallies.{all_ready, ready_next}
 use Rattle.machine_probe.proofs.tests.are_ready.Goals as goal
 
 pub loop-probe-preserved : goal.loop-probe-preserved
 loop-probe-preserved g c =
-    all_next (λ b. ((goal.Probe-dyn g (b.vtable, b.value)).standing b.value).tally ≤ 2 ^ 126) c.args.probes.now c.loop-probe.probe-index c.probe-item.result
+    ready_next (λ b. (goal.Probe-dyn g (b.vtable, b.value)).standing b.value) c.args.probes.now c.loop-probe.probe-index c.probe-item.result
     c.probe-item.is c.loop-probe.invariant c.loop-probe-test.true (c.is_ready.ensures c.if-not-is_ready.false)
 
 pub returns-clause-small : goal.returns-clause-small
 returns-clause-small g c =
-    λ _. all_taken (λ b. ((goal.Probe-dyn g (b.vtable, b.value)).standing b.value).tally ≤ 2 ^ 126) c.args.probes.now c.loop-probe.probe-index
+    λ _. all_ready (λ b. (goal.Probe-dyn g (b.vtable, b.value)).standing b.value) c.args.probes.now c.loop-probe.probe-index
     c.loop-probe.invariant c.loop-probe-test.false
