@@ -17,7 +17,7 @@ mod forms;
 mod laws;
 mod lowest;
 mod rows;
-mod terms;
+mod term_list;
 #[cfg(test)]
 mod tests;
 mod weighing;
@@ -28,4 +28,7 @@ pub use laws::{
     rounding_keeps_integers, rows_are_in_normal_form, rows_are_their_own_normal_form,
     substitution_commutes,
 };
+pub use lowest::greatest_common_divisor;
 pub use rows::{Row, RowTerm, Var};
+pub use term_list::Terms;
+pub use weighing::{Weight, factor, fit, weigh, weigh_constants};

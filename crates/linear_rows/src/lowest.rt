@@ -2,7 +2,7 @@ ghost use Rattle.std.specs.Prelude.{◌≡◌, ◌<◌, ◌+◌, ℕ, ℤ, pos, 
 ghost use Rattle.linear_rows.specs.NormalForm.{gcd, divisor_of as common_divisor_of, floor, is_within, number_within, terms_within, divided};
 
 use crate::rows::RowTerm;
-use crate::terms::Terms;
+use crate::term_list::Terms;
 use std::alloc::{AllocError, Global};
 
 /// The greatest magnitude of a factor or constant of a row, 2^90.
@@ -10,7 +10,7 @@ const MOST: u128 = 1 << 90;
 
 /// The greatest common divisor of two numbers, by Euclid's algorithm.
 #[tactic(auto, using(crate::proofs::Divisors::gcd_step, crate::proofs::Divisors::gcd_zero))]
-pub(crate) fn greatest_common_divisor(mut first: u128, mut second: u128) -> u128
+pub fn greatest_common_divisor(mut first: u128, mut second: u128) -> u128
     ensures { result ≡ gcd first second }
 {
     while second != 0 {

@@ -1,7 +1,7 @@
 ghost use Rattle.std.specs.Prelude.{◌≡◌, neg_ℤ, IfOk, IfSome, option_and_then};
 
 use crate::forms::Form;
-use crate::terms::Terms;
+use crate::term_list::Terms;
 use crate::weighing::Weight;
 use crate::{lowest, weighing};
 use std::alloc::{AllocError, Global};

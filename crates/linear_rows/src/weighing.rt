@@ -5,7 +5,7 @@ ghost use Rattle.linear_rows.specs.Forms.{small, weighted_terms_within, weighted
 ghost use Rattle.linear_rows.specs.Steps.{signed, TakesFirst};
 
 use crate::rows::{RowTerm, Var};
-use crate::terms::Terms;
+use crate::term_list::Terms;
 use std::alloc::{AllocError, Global};
 use std::cmp::Ordering;
 
@@ -14,16 +14,16 @@ const TOO_LARGE: u128 = 1 << 127;
 
 /// What a row or form is multiplied by.
 #[derive(Clone, Copy)]
-pub(crate) struct Weight {
+pub struct Weight {
     /// Its magnitude.
-    pub(crate) magnitude: u128,
+    pub magnitude: u128,
     /// Whether it is the negative of that.
-    pub(crate) is_negative: bool,
+    pub is_negative: bool,
 }
 
 impl Weight {
     /// A weight of at least 0.
-    pub(crate) fn times(magnitude: u128) -> Weight
+    pub fn times(magnitude: u128) -> Weight
         ensures { result ≡ record { magnitude = magnitude; is_negative = false } }
     {
         Weight {
@@ -67,7 +67,7 @@ fn product(weight: Weight, number: i128) -> Option<i128>
 }
 
 /// The number, where its magnitude is below 2^127.
-fn fit(number: i128) -> Option<i128>
+pub fn fit(number: i128) -> Option<i128>
     ensures { result ≡ small number }
 {
     if number.unsigned_abs() < TOO_LARGE {
@@ -85,7 +85,7 @@ fn sum(first: i128, second: i128) -> Option<i128>
 }
 
 /// The weighted sum of two constants, where each product and the sum have magnitudes below 2^127.
-pub(crate) fn weigh_constants(a: Weight, first: i128, b: Weight, second: i128) -> Option<i128>
+pub fn weigh_constants(a: Weight, first: i128, b: Weight, second: i128) -> Option<i128>
     ensures { result ≡ weighted_constant_within (signed a.is_negative a.magnitude) first (signed b.is_negative b.magnitude) second }
 {
     sum(product(a, first)?, product(b, second)?)
@@ -169,7 +169,7 @@ fn first_term<'a>(xs: &'a [RowTerm], a: Weight, ys: &'a [RowTerm], b: Weight) ->
 
 /// The weighted sum of two lists of terms, variable by variable, without zeros. None where a product or a
 /// sum has a magnitude of 2^127 or more.
-pub(crate) fn weigh(
+pub fn weigh(
     alloc: Global,
     xs: &[RowTerm],
     a: Weight,
@@ -196,7 +196,7 @@ pub(crate) fn weigh(
 }
 
 /// The factor of a variable in terms, 0 where it has none.
-pub(crate) fn factor(terms: &[RowTerm], var: &Var) -> i128
+pub fn factor(terms: &[RowTerm], var: &Var) -> i128
     ensures { result ≡ factor_of var.now terms.now }
 {
     for term in terms {

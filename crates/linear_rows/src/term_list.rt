@@ -5,7 +5,7 @@ use std::marker::Model;
 
 /// A list of terms. Up to four stand in the value itself, and take no memory.
 #[derive(Debug, Drop)]
-pub(crate) struct Terms {
+pub struct Terms {
     kept: SmallVec<RowTerm, 4>,
 }
 
@@ -22,7 +22,7 @@ impl Terms {
     ghost use Rattle.std.specs.Prelude.{◌≡◌, [], ◌∷◌, ◌++◌, OnOk};
 
     /// No terms.
-    pub(crate) fn new(alloc: Global) -> Terms
+    pub fn new(alloc: Global) -> Terms
         ensures { result ≡ [] }
     {
         Terms {
@@ -31,7 +31,7 @@ impl Terms {
     }
 
     /// Adds a term at the end.
-    pub(crate) fn push(&mut self, term: RowTerm) -> Result<(), AllocError>
+    pub fn push(&mut self, term: RowTerm) -> Result<(), AllocError>
         ensures { OnOk result (self.new ≡ self.old ++ term ∷ []) }
     {
         self.kept.push(term)?;
@@ -39,7 +39,7 @@ impl Terms {
     }
 
     /// The terms.
-    pub(crate) fn as_slice(&self) -> &[RowTerm]
+    pub fn as_slice(&self) -> &[RowTerm]
         ensures { result.now ≡ self.now }
     {
         self.kept.as_slice()
