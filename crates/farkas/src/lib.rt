@@ -1,0 +1,10 @@
+//! Whether rows entail a row, with evidence.
+#![tactic(auto)]
+
+mod answers;
+mod laws;
+
+pub use answers::{Answer, Emptiness, Multiplier, RationalPoint};
+pub use laws::{
+    empty_proofs_are_sound, proofs_are_sound, refutations_are_sound, witnesses_are_sound,
+};
