@@ -1,1 +1,5 @@
 pub mod Soundness
+pub mod Adding
+pub mod Summing
+pub mod Parting
+pub mod Matching

@@ -1,3 +1,6 @@
 pub mod Points
 pub mod Evidence
 pub mod Answers
+pub mod Weights
+pub mod Derivations
+pub mod Steps

@@ -2,7 +2,10 @@
 #![tactic(auto)]
 
 mod answers;
+mod derived;
 mod laws;
+mod steps;
+mod weights;
 
 pub use answers::{Answer, Emptiness, Multiplier, RationalPoint};
 pub use laws::{

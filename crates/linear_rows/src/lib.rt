@@ -28,7 +28,7 @@ pub use laws::{
     rounding_keeps_integers, rows_are_in_normal_form, rows_are_their_own_normal_form,
     substitution_commutes,
 };
-pub use lowest::greatest_common_divisor;
+pub use lowest::{greatest_common_divisor, quotient};
 pub use rows::{Row, RowTerm, Var};
 pub use term_list::Terms;
-pub use weighing::{Weight, factor, fit, weigh, weigh_constants};
+pub use weighing::{Weight, factor, fit, order, weigh, weigh_constants};

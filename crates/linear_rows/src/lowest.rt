@@ -36,7 +36,7 @@ pub(crate) fn divisor(terms: &[RowTerm]) -> u128
 }
 
 /// The quotient, rounded down.
-fn quotient(number: i128, divisor: u128) -> i128
+pub fn quotient(number: i128, divisor: u128) -> i128
     requires { 0 < divisor }
     ensures { result ≡ floor number divisor }
 {

@@ -102,7 +102,7 @@ fn push_nonzero(out: &mut Terms, var: Var, factor: i128) -> Result<(), AllocErro
 }
 
 /// The order of two variables.
-pub(crate) fn order(first: &Var, second: &Var) -> Ordering
+pub fn order(first: &Var, second: &Var) -> Ordering
     ensures { result ≡ var_cmp first.now second.now }
 {
     first.cmp(second)
