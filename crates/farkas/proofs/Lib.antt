@@ -3,3 +3,5 @@ pub mod Adding
 pub mod Summing
 pub mod Parting
 pub mod Matching
+pub mod Fractions
+pub mod Slacks

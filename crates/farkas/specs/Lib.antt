@@ -4,3 +4,4 @@ pub mod Answers
 pub mod Weights
 pub mod Derivations
 pub mod Steps
+pub mod Placing

@@ -102,6 +102,13 @@ impl Derived {
         self.weighted(alloc, a, other, b)
     }
 
+    /// The terms.
+    pub(crate) fn terms(&self) -> &[RowTerm]
+        ensures { result.now ≡ self.now.terms }
+    {
+        self.terms.as_slice()
+    }
+
     /// The factor of a variable.
     pub(crate) fn factor(&self, var: &Var) -> i128
         ensures { result ≡ factor_of var.now self.now.terms }
@@ -131,7 +138,7 @@ impl Derived {
     }
 
     /// The magnitude of a variable's factor.
-    fn size(&self, var: &Var) -> u128
+    pub(crate) fn size(&self, var: &Var) -> u128
         ensures { result ≡ size_of var.now self.now }
     {
         self.factor(var).unsigned_abs()

@@ -4,6 +4,7 @@
 mod answers;
 mod derived;
 mod laws;
+mod placing;
 mod steps;
 mod weights;
 
