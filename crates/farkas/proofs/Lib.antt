@@ -5,3 +5,4 @@ pub mod Parting
 pub mod Matching
 pub mod Fractions
 pub mod Slacks
+pub mod Raising

@@ -79,8 +79,9 @@ extended y n m p = record {
   divisor = pos m *ℤ p.divisor;
 }
 
-abbrev pub extended_fits : ℕ → Placed → Bool
-extended_fits m p = numbers_fit (pos m) p.numbers && is_small (pos m *ℤ p.last) && is_small (pos m *ℤ p.divisor)
+abbrev pub extended_fits : ℤ → ℕ → Placed → Bool
+extended_fits n m p =
+    is_small n && numbers_fit (pos m) p.numbers && is_small (pos m *ℤ p.last) && is_small (pos m *ℤ p.divisor)
 
 -- the greatest common divisor of a number and of others
 abbrev pub common_number : ℕ → List ℤ → ℕ
@@ -103,24 +104,37 @@ lowest_point p = record {
   divisor = floor p.divisor (point_divisor p);
 }
 
--- the greatest lower bound of the variable, else its least upper bound, else 0
-abbrev pub chosen : Var → Option Limit → Option Limit → Placed → Placed
-chosen y (Some l) upper p = extended y (neg_ℤ l.slack) l.size p
-chosen y None (Some u) p = extended y u.slack u.size p
-chosen y None None p = extended y (pos 0) 1 p
+-- the greatest lower bound of the variable
+abbrev pub from_below : Var → Limit → Placed → Placed
+from_below y l p = extended y (pos 0 -ℤ l.slack) l.size p
 
-abbrev pub chosen_fits : Option Limit → Option Limit → Placed → Bool
-chosen_fits (Some l) upper p = extended_fits l.size p
-chosen_fits None (Some u) p = extended_fits u.size p
-chosen_fits None None p = extended_fits 1 p
+-- its least upper bound, else 0
+abbrev pub from_above : Var → Option Limit → Placed → Placed
+from_above y (Some u) p = extended y u.slack u.size p
+from_above y None p = extended y (pos 0) 1 p
 
+-- the greatest lower bound, else the least upper bound, else 0
+abbrev pub chosen : Var → Option Limit → List Derivation → Placed → Placed
+chosen y (Some l) rs p = from_below y l p
+chosen y None rs p = from_above y (least_limit true y p None rs) p
+
+abbrev pub fits_below : Limit → Placed → Bool
+fits_below l p = is_small (pos 0 -ℤ l.slack) && extended_fits (pos 0 -ℤ l.slack) l.size p
+
+abbrev pub fits_above : Option Limit → Placed → Bool
+fits_above (Some u) p = extended_fits u.slack u.size p
+fits_above None p = extended_fits (pos 0) 1 p
+
+abbrev pub chosen_fits : Var → Option Limit → List Derivation → Placed → Bool
+chosen_fits y (Some l) rs p = fits_below l p
+chosen_fits y None rs p = limits_fit true y p rs && fits_above (least_limit true y p None rs) p
+
+-- the point with a number for one more variable, in lowest terms
 abbrev pub with_number : Var → List Derivation → Placed → Placed
-with_number y rs p = lowest_point (chosen y (least_limit false y p None rs) (least_limit true y p None rs) p)
+with_number y rs p = lowest_point (chosen y (least_limit false y p None rs) rs p)
 
 abbrev pub number_fits : Var → List Derivation → Placed → Bool
-number_fits y rs p =
-    limits_fit false y p rs && limits_fit true y p rs
-    && chosen_fits (least_limit false y p None rs) (least_limit true y p None rs) p
+number_fits y rs p = limits_fit false y p rs && chosen_fits y (least_limit false y p None rs) rs p
 
 -- the steps of a run: the variables with the inequalities that mentioned them
 abbrev pub levels_of : List Var → List Derivation → List Level

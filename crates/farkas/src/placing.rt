@@ -1,11 +1,11 @@
-ghost use Rattle.std.specs.Prelude.{◌≡◌, ◌<◌, ◌*◌, ◌+◌, ℕ, ℤ, pos, neg_ℤ, ◌-ℤ◌, ◌*ℤ◌, true, false, int_lt, unsigned_abs, ◌&&◌, IfOk, IfSome, MatchOption, IsTrue, ◌↔◌, Option, Some, None};
+ghost use Rattle.std.specs.Prelude.{◌≡◌, ◌<◌, ◌*◌, ◌+◌, ℕ, ℤ, pos, neg_ℤ, ◌-ℤ◌, ◌*ℤ◌, true, false, int_lt, unsigned_abs, ◌&&◌, [], ◌∷◌, IfOk, IfSome, MatchOption, IsTrue, ◌↔◌, Option, Some, None};
 ghost use Rattle.linear_rows.specs.Forms.{small, is_small};
 ghost use Rattle.linear_rows.specs.NormalForm.{floor, gcd};
 ghost use Rattle.farkas.specs.Points.{number_of};
-ghost use Rattle.farkas.specs.Placing.{slack_from, slack_fits_from, slack_of, slack_fits, limit_of, is_less, lesser, limits, least_limit, limits_fit, scaled_numbers, numbers_fit, extended, extended_fits, common_number, point_divisor, divided_numbers, lowest_point, chosen, chosen_fits, with_number, number_fits, raised, raised_fits};
+ghost use Rattle.farkas.specs.Placing.{slack_from, slack_fits_from, slack_of, slack_fits, limit_of, is_less, lesser, limits, least_limit, limits_fit, scaled_numbers, numbers_fit, extended, extended_fits, common_number, point_divisor, divided_numbers, lowest_point, from_below, from_above, fits_below, fits_above, chosen, chosen_fits, with_number, number_fits, raised, raised_fits};
 
 use crate::derived::Derived;
-use linear_rows::{RowTerm, Var, fit, greatest_common_divisor, order, quotient};
+use linear_rows::{RowTerm, Var, Weight, fit, greatest_common_divisor, order, product, quotient};
 use sqlite_items::Items;
 use std::alloc::{AllocError, Global};
 use std::cmp::Ordering;
@@ -196,4 +196,224 @@ fn lesser_of(least: Option<Limit>, limit: Limit) -> Limit
         }
         None => limit,
     }
+}
+
+/// The multiple of a number, where its magnitude is below the limit.
+fn multiple(by: u128, number: &i128) -> Option<i128>
+    ensures { MatchOption result (is_small (pos by *ℤ number.now) ≡ false) (λ z. (z ≡ pos by *ℤ number.now) × (is_small (pos by *ℤ number.now) ≡ true)) }
+{
+    product(Weight::times(by), *number)
+}
+
+/// A number, and behind it the multiples of others. None where one passes the limit.
+fn scale(
+    alloc: Global,
+    first: i128,
+    numbers: &[i128],
+    by: u128,
+) -> Result<Option<Items<i128>>, AllocError>
+    ensures { IfOk result (λ o. MatchOption o (numbers_fit (pos by) numbers.now ≡ false) (λ ns. ns ≡ first ∷ scaled_numbers (pos by) numbers.now)) }
+{
+    let mut out = Items::new(alloc);
+    out.push(first)?;
+    for number in numbers {
+        let Some(scaled) = multiple(by, number) else {
+            return Ok(None);
+        };
+        out.push(scaled)?;
+    }
+    Ok(Some(out))
+}
+
+/// A variable in front of others.
+fn put_first(alloc: Global, var: &Var, vars: &[Var]) -> Result<Items<Var>, AllocError>
+    ensures { IfOk result (λ vs. vs ≡ var.now ∷ vars.now) }
+{
+    let mut out = Items::new(alloc);
+    out.push(*var)?;
+    for other in vars {
+        out.push(*other)?;
+    }
+    Ok(out)
+}
+
+/// The greatest common divisor of a number and of others.
+fn divisor_of(number: u128, numbers: &[i128]) -> u128
+    ensures { result ≡ common_number number numbers.now }
+{
+    let mut divisor = number;
+    for number in numbers {
+        divisor = divisor_with(divisor, *number);
+    }
+    divisor
+}
+
+/// The greatest common divisor of a number and of another's magnitude.
+fn divisor_with(divisor: u128, number: i128) -> u128
+    ensures { result ≡ gcd divisor (unsigned_abs number) }
+{
+    greatest_common_divisor(divisor, number.unsigned_abs())
+}
+
+/// Each number divided.
+fn divide(alloc: Global, numbers: &[i128], divisor: u128) -> Result<Items<i128>, AllocError>
+    requires { 0 < divisor }
+    ensures { IfOk result (λ ns. ns ≡ divided_numbers divisor numbers.now) }
+{
+    let mut out = Items::new(alloc);
+    for number in numbers {
+        out.push(quotient(*number, divisor))?;
+    }
+    Ok(out)
+}
+
+impl Placed {
+    /// The point with one more variable, whose number is over the old divisor times a size. None where a
+    /// number passes the limit.
+    fn extend(
+        &self,
+        alloc: Global,
+        var: &Var,
+        number: i128,
+        size: u128,
+    ) -> Result<Option<Placed>, AllocError>
+        ensures { IfOk result (λ o. MatchOption o (extended_fits number size self.now ≡ false) (λ p. p ≡ extended var.now number size self.now)) }
+    {
+        let Some(number) = fit(number) else {
+            return Ok(None);
+        };
+        let Some(numbers) = scale(alloc, number, self.numbers.as_slice(), size)? else {
+            return Ok(None);
+        };
+        let Some(last) = multiple(size, &self.last) else {
+            return Ok(None);
+        };
+        let Some(divisor) = multiple(size, &self.divisor) else {
+            return Ok(None);
+        };
+        let vars = put_first(alloc, var, self.vars.as_slice())?;
+        Ok(Some(Placed {
+            vars,
+            numbers,
+            last,
+            divisor,
+        }))
+    }
+
+    /// The point in lowest terms.
+    fn lowest(self, alloc: Global) -> Result<Placed, AllocError>
+        ensures { IfOk result (λ p. p ≡ lowest_point self) }
+    {
+        let both = divisor_with(self.divisor.unsigned_abs(), self.last);
+        let common = divisor_of(both, self.numbers.as_slice()).max(1);
+        let Placed {
+            vars,
+            numbers,
+            last,
+            divisor,
+        } = self;
+        Ok(Placed {
+            vars,
+            numbers: divide(alloc, numbers.as_slice(), common)?,
+            last: quotient(last, common),
+            divisor: quotient(divisor, common),
+        })
+    }
+
+    /// The point with the greatest lower bound of a variable, None where a number passes the limit.
+    fn from_below(
+        &self,
+        alloc: Global,
+        var: &Var,
+        limit: Limit,
+    ) -> Result<Option<Placed>, AllocError>
+        ensures { IfOk result (λ o. MatchOption o (fits_below limit self.now ≡ false) (λ p. p ≡ from_below var.now limit self.now)) }
+    {
+        match negated(limit.slack) {
+            Some(number) => self.extend(alloc, var, number, limit.size),
+            None => Ok(None),
+        }
+    }
+
+    /// The point with the least upper bound of a variable, 0 where it has none. None where a number passes the
+    /// limit.
+    fn from_above(
+        &self,
+        alloc: Global,
+        var: &Var,
+        limit: Option<Limit>,
+    ) -> Result<Option<Placed>, AllocError>
+        ensures { IfOk result (λ o. MatchOption o (fits_above limit self.now ≡ false) (λ p. p ≡ from_above var.now limit self.now)) }
+    {
+        match limit {
+            Some(limit) => self.extend(alloc, var, limit.slack, limit.size),
+            None => self.extend(alloc, var, 0, 1),
+        }
+    }
+
+    /// The point with a number for a variable: the greatest lower bound that some rows give it, else the least
+    /// upper bound, else 0. None where a number passes the limit.
+    fn choose(
+        &self,
+        alloc: Global,
+        var: &Var,
+        below: Option<Limit>,
+        rows: &[Derived],
+    ) -> Result<Option<Placed>, AllocError>
+        ensures { IfOk result (λ o. MatchOption o (chosen_fits var.now below rows.now self.now ≡ false) (λ p. p ≡ chosen var.now below rows.now self.now)) }
+    {
+        match below {
+            Some(limit) => self.from_below(alloc, var, limit),
+            None => match self.least_limit(true, var, rows) {
+                Some(above) => self.from_above(alloc, var, above),
+                None => Ok(None),
+            },
+        }
+    }
+
+    /// The point with a number for one more variable, in lowest terms. None where a number passes the limit.
+    fn with_number(
+        &self,
+        alloc: Global,
+        var: &Var,
+        rows: &[Derived],
+    ) -> Result<Option<Placed>, AllocError>
+        ensures { IfOk result (λ o. MatchOption o (number_fits var.now rows.now self.now ≡ false) (λ p. p ≡ with_number var.now rows.now self.now)) }
+    {
+        let Some(below) = self.least_limit(false, var, rows) else {
+            return Ok(None);
+        };
+        match self.choose(alloc, var, below, rows)? {
+            Some(point) => Ok(Some(point.lowest(alloc)?)),
+            None => Ok(None),
+        }
+    }
+}
+
+/// The negated number, where its magnitude is below the limit.
+fn negated(number: i128) -> Option<i128>
+    ensures { MatchOption result (is_small (pos 0 -ℤ number) ≡ false) (λ z. z ≡ pos 0 -ℤ number) }
+{
+    minus(0, number)
+}
+
+/// The point with numbers for the variables of all steps, the last step first. None where a number passes the
+/// limit.
+#[tactic(auto, using(crate::proofs::Raising::raised_push, crate::proofs::Raising::fits_push))]
+pub(crate) fn raise(
+    alloc: Global,
+    levels: Items<Level>,
+    start: Placed,
+) -> Result<Option<Placed>, AllocError>
+    ensures { IfOk result (λ o. MatchOption o (raised_fits levels start ≡ false) (λ p. p ≡ raised levels start)) }
+{
+    let mut left = levels;
+    let mut point = start;
+    while let Some(level) = left.pop() {
+        match point.with_number(alloc, &level.var, level.rows.as_slice())? {
+            Some(next) => point = next,
+            None => return Ok(None),
+        }
+    }
+    Ok(Some(point))
 }

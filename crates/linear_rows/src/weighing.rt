@@ -59,7 +59,7 @@ fn with_sign(is_negative: bool, magnitude: u128) -> Option<i128>
 }
 
 /// The product, where its magnitude is below 2^127.
-fn product(weight: Weight, number: i128) -> Option<i128>
+pub fn product(weight: Weight, number: i128) -> Option<i128>
     ensures { result ≡ small (signed weight.is_negative weight.magnitude *ℤ number) }
 {
     let magnitude = number.unsigned_abs().checked_mul(weight.magnitude)?;
