@@ -10,7 +10,7 @@ record Placed (m : Multiplier) (xs : List Multiplier) (place : ℕ) (found : Opt
   before : before_row m.row xs ≡ place
   factor : found_factor m.row xs ≡ found
 
-by_row : {P : Type 0} (a b : ℕ) → (a < b → P) → (a ≡ b → P) → (b < a → P) → P
+pub by_row : {P : Type 0} (a b : ℕ) → (a < b → P) → (a ≡ b → P) → (b < a → P) → P
 by_row {P} a b less same more = cases (nat_lt a b) refl (a == b) refl
   where
     cases : (c : Bool) → nat_lt a b ≡ c → (d : Bool) → (a == b) ≡ d → P

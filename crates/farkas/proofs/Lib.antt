@@ -6,3 +6,6 @@ pub mod Matching
 pub mod Fractions
 pub mod Slacks
 pub mod Raising
+pub mod Rings
+pub mod Totals
+pub mod Deriving

@@ -5,3 +5,4 @@ pub mod Weights
 pub mod Derivations
 pub mod Steps
 pub mod Placing
+pub mod Deciding

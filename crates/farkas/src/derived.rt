@@ -1,4 +1,4 @@
-ghost use Rattle.std.specs.Prelude.{◌≡◌, ◌<◌, ◌+◌, ℕ, ℤ, pos, negsuc, ◌+ℤ◌, int_le, true, false, max, unsigned_abs, List, IfOk, IfSome, MatchOption, IsTrue, ◌↔◌};
+ghost use Rattle.std.specs.Prelude.{◌≡◌, ◌<◌, ◌+◌, ℕ, ℤ, pos, negsuc, ◌+ℤ◌, int_le, int_lt, if◌then◌else◌, true, false, max, unsigned_abs, List, IfOk, IfSome, MatchOption, IsTrue, ◌↔◌};
 ghost use Rattle.linear_rows.specs.NormalForm.{gcd, divided, floor, common_divisor, all_within};
 ghost use Rattle.linear_rows.specs.Terms.{factor_of, scaled_terms, IsCollected, IsAscending};
 ghost use Rattle.linear_rows.specs.Forms.{weighted_constant_within, weighted_terms_within};
@@ -7,6 +7,7 @@ ghost use Rattle.farkas.specs.Derivations.{divisor_of_all};
 ghost use Rattle.farkas.specs.Steps.{are_negated, are_same};
 
 use crate::answers::Multiplier;
+use crate::placing::Limit;
 use crate::weights::Support;
 use linear_rows::{
     Row, RowTerm, Terms, Var, Weight, factor, greatest_common_divisor, order, quotient, weigh,
@@ -41,6 +42,7 @@ impl Model for Derived {
 impl Derived {
     ghost use Rattle.linear_rows.specs.Rows.{Inequality};
     ghost use Rattle.farkas.specs.Derivations.{given, at_most_last, at_least_last, combination, combination_fits, size_of, sum_stays_small, weighted_sum};
+    ghost use Rattle.farkas.specs.Deciding.{is_absurd, bounds_last, last_limit};
     ghost use Rattle.farkas.specs.Steps.{is_negation, is_alike, is_plain, has_no_terms, mentions, has_positive, has_negative};
 
     /// The row at a place of the given list.
@@ -188,6 +190,37 @@ impl Derived {
         self.terms.as_slice().is_empty()
     }
 
+    /// Whether it holds nowhere: no terms and no multiple of the last variable, and a negative constant.
+    pub(crate) fn is_absurd(&self) -> bool
+        ensures { result ≡ is_absurd self.now }
+    {
+        self.is_bare() && self.last() == 0 && self.constant() < 0
+    }
+
+    /// Whether it bounds the last variable from above, or from below.
+    pub(crate) fn bounds_last(&self, up: bool) -> bool
+        ensures { result ≡ bounds_last up self.now }
+    {
+        self.is_bare() && is_signed(self.last(), up)
+    }
+
+    /// The bound of the last variable.
+    pub(crate) fn last_limit(&self) -> Limit
+        ensures { result ≡ last_limit self.now }
+    {
+        Limit {
+            slack: self.constant,
+            size: self.last.unsigned_abs(),
+        }
+    }
+
+    /// What supports it.
+    pub(crate) fn support(&self) -> &Support
+        ensures { result.now ≡ self.now.support }
+    {
+        &self.support
+    }
+
     /// a times this row plus b times another, divided by the greatest common divisor of all numbers. None
     /// where a number of which it is made passes the limit.
     fn weighted(
@@ -222,6 +255,13 @@ impl Derived {
             support,
         }))
     }
+}
+
+/// Whether a number is positive, or negative.
+fn is_signed(number: i128, positive: bool) -> bool
+    ensures { result ≡ (if positive then int_lt (pos 0) number else int_lt number (pos 0)) }
+{
+    if positive { number > 0 } else { number < 0 }
 }
 
 /// Whether a number is at least 0.

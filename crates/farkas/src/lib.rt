@@ -2,9 +2,11 @@
 #![tactic(auto)]
 
 mod answers;
+mod deciding;
 mod derived;
 mod laws;
 mod placing;
+mod runs;
 mod steps;
 mod weights;
 

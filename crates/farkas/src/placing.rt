@@ -67,7 +67,7 @@ fn is_less_natural(a: u128, m: u128, b: u128, n: u128) -> bool
 
 impl Limit {
     /// Whether the fraction is less than another.
-    fn is_less(self, other: Limit) -> bool
+    pub(crate) fn is_less(self, other: Limit) -> bool
         requires first { 0 < self.size }
         requires second { 0 < other.size }
         ensures { result ≡ is_less self other }
@@ -78,6 +78,25 @@ impl Limit {
             other.slack >= 0 || is_less_natural(theirs, other.size, mine, self.size)
         } else {
             other.slack > 0 && is_less_natural(mine, self.size, theirs, other.size)
+        }
+    }
+}
+
+impl Limit {
+    ghost use Rattle.farkas.specs.Deciding.{is_negative_sum};
+
+    /// Whether the sum with another fraction is negative.
+    pub(crate) fn is_negative_with(self, other: Limit) -> bool
+        requires first { 0 < self.size }
+        requires second { 0 < other.size }
+        ensures { result ≡ is_negative_sum self other }
+    {
+        let mine = self.slack.unsigned_abs();
+        let theirs = other.slack.unsigned_abs();
+        if self.slack < 0 {
+            other.slack <= 0 || is_less_natural(theirs, other.size, mine, self.size)
+        } else {
+            other.slack < 0 && is_less_natural(mine, self.size, theirs, other.size)
         }
     }
 }
@@ -391,7 +410,7 @@ impl Placed {
 }
 
 /// The negated number, where its magnitude is below the limit.
-fn negated(number: i128) -> Option<i128>
+pub(crate) fn negated(number: i128) -> Option<i128>
     ensures { MatchOption result (is_small (pos 0 -ℤ number) ≡ false) (λ z. z ≡ pos 0 -ℤ number) }
 {
     minus(0, number)
