@@ -9,3 +9,5 @@ pub mod Raising
 pub mod Rings
 pub mod Totals
 pub mod Deriving
+pub mod Following
+pub mod Proving

@@ -172,3 +172,12 @@ abbrev pub emptiness_fits : List Inequality → Bool
 emptiness_fits rows =
     run_fits (vars_of [] rows) (given_from 0 rows)
     && emptiness_by_fits (levels_of (vars_of [] rows) (given_from 0 rows)) (first_absurd (run (vars_of [] rows) (given_from 0 rows)))
+
+-- the answer of the run for rows and a row
+abbrev pub answer_of_run : List Inequality → Inequality → Answer
+answer_of_run rows row =
+    decided row.constant (levels_of (variables_of rows row) (start_of rows row)) (run (variables_of rows row) (start_of rows row))
+
+abbrev pub emptiness_of_run : List Inequality → Emptiness
+emptiness_of_run rows =
+    emptiness_by (levels_of (vars_of [] rows) (given_from 0 rows)) (first_absurd (run (vars_of [] rows) (given_from 0 rows)))

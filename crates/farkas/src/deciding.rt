@@ -6,7 +6,7 @@ ghost use Rattle.farkas.specs.Weights.{is_below, combined_support, supports_fit}
 ghost use Rattle.linear_rows.specs.Forms.{is_small};
 ghost use Rattle.farkas.specs.declared.answers.Answer.TheVariants.{Proved};
 
-use crate::answers::{Answer, RationalPoint};
+use crate::answers::{Answer, Emptiness, RationalPoint};
 use crate::derived::Derived;
 use crate::placing::{Level, Limit, Placed, negated, raise};
 use crate::weights::{Support, product};
@@ -234,6 +234,53 @@ fn decide_by_upper(
         }
         None => match start_above(alloc, tested, tightest(false, left)) {
             Some(start) => refute(alloc, levels, start),
+            None => Ok(None),
+        },
+    }
+}
+
+/// The answer to whether a row whose constant is tested follows, where a run had some steps and left some
+/// rows. None where a number passes the limit.
+pub(crate) fn decide(
+    alloc: Global,
+    tested: i128,
+    levels: Items<Level>,
+    left: &[Derived],
+) -> Result<Option<Answer>, AllocError>
+    ensures { IfOk result (λ o. MatchOption o (decision_fits tested levels left.now ≡ false) (λ a. a ≡ decided tested levels left.now)) }
+{
+    match first_absurd(left) {
+        Some(row) => prove_absurd(alloc, row),
+        None => decide_by_upper(alloc, tested, levels, left),
+    }
+}
+
+/// The proof by a row that holds nowhere.
+fn prove_absurd(alloc: Global, row: &Derived) -> Result<Option<Answer>, AllocError>
+    ensures { IfOk result (λ o. o ≡ Some (Proved row.now.support.multipliers row.now.support.divisor)) }
+{
+    let support = row.support();
+    Ok(Some(Answer::Proved {
+        multipliers: Items::from_slice(alloc, support.multipliers.as_slice())?,
+        divisor: support.divisor,
+    }))
+}
+
+/// Whether there is a rational point, where a run had some steps and left some rows. None where a number
+/// passes the limit.
+pub(crate) fn decide_emptiness(
+    alloc: Global,
+    levels: Items<Level>,
+    left: &[Derived],
+) -> Result<Option<Emptiness>, AllocError>
+    ensures { IfOk result (λ o. MatchOption o (emptiness_by_fits levels (first_absurd left.now) ≡ false) (λ a. a ≡ emptiness_by levels (first_absurd left.now))) }
+{
+    match first_absurd(left) {
+        Some(row) => Ok(Some(Emptiness::Empty {
+            multipliers: Items::from_slice(alloc, row.support().multipliers.as_slice())?,
+        })),
+        None => match raise(alloc, levels, last_at(alloc, 0, 1))? {
+            Some(point) => Ok(Some(Emptiness::Inhabited(point_of(point)))),
             None => Ok(None),
         },
     }

@@ -4,6 +4,7 @@
 mod answers;
 mod deciding;
 mod derived;
+mod entailment;
 mod laws;
 mod placing;
 mod runs;

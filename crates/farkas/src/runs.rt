@@ -66,7 +66,7 @@ fn add_var(vars: &mut Vec<Var>, var: &Var) -> Result<(), AllocError>
 }
 
 /// Adds the variables of terms.
-fn add_vars(vars: &mut Vec<Var>, terms: &[RowTerm]) -> Result<(), AllocError>
+pub(crate) fn add_vars(vars: &mut Vec<Var>, terms: &[RowTerm]) -> Result<(), AllocError>
     ensures { OnOk result (vars.new.items ≡ with_vars vars.old.items terms.now) }
 {
     for term in terms {
