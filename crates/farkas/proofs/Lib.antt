@@ -11,3 +11,5 @@ pub mod Totals
 pub mod Deriving
 pub mod Following
 pub mod Proving
+pub mod Agreeing
+pub mod Reaching

@@ -13,18 +13,20 @@ use Rattle.linear_rows.specs.Variables.{var_cmp}
 use Rattle.linear_rows.specs.Rows.{Inequality, Valuation, sum_at}
 use Rattle.linear_rows.specs.Terms.{IsCollected, Follows, IsAscending, HasNoZero, scaled_terms}
 use Rattle.linear_rows.proofs.VariableOrder.{same_var, equal_itself, greater_less}
-use Rattle.linear_rows.proofs.Integers.{mul_assoc}
+use Rattle.linear_rows.proofs.Integers.{mul_assoc, neg-mul, mul-neg}
 use Rattle.linear_rows.proofs.TermLists.{by_order, follows_before, IsAscending-scaled, is_zero_of}
 use Rattle.linear_rows.proofs.Values.{sum_at-scaled}
+use Rattle.linear_rows.proofs.Rounding.{mul_monotone}
 use Rattle.linear_rows.proofs.Combining.{sum_at-weighted, weighted_collected}
 use Rattle.farkas.specs.declared.answers.Multiplier.{Multiplier}
+use Rattle.farkas.specs.declared.weights.Support.{Support}
 use Rattle.farkas.specs.Evidence.{row_at, combined_terms, combined_constant, IsProof, IsEmptyProof}
 use Rattle.farkas.specs.Weights.{combined_support}
 use Rattle.farkas.specs.Derivations.{Derivation, left_at}
 use Rattle.farkas.specs.Steps.{has_no_terms}
 use Rattle.farkas.specs.Deciding.{is_absurd, bounds_last, last_limit, is_at_most, is_negative_sum}
-use Rattle.farkas.proofs.Soundness.{one-mul}
-use Rattle.farkas.proofs.Rings.{together}
+use Rattle.farkas.proofs.Soundness.{one-mul, less_times}
+use Rattle.farkas.proofs.Rings.{together, regroup, cancel_same}
 use Rattle.farkas.proofs.Totals.{total}
 use Rattle.farkas.proofs.Deriving.{IsDerived, side_at, constant_of, support_combined, support_positive, support_named}
 
@@ -105,6 +107,11 @@ ge_of a b e = grind (arith, ints)
 left_bare : (v : Valuation) (z : ℤ) (r : Derivation) → r.terms ≡ [] → left_at v z r ≡ r.last *ℤ z
 left_bare v z r e = let f : sum_at v r.terms ≡ pos 0 = ap (sum_at v) e in omega (arith, ints)
 
+negative_times : (d : ℕ) (c : ℤ) → 0 < d → c <ℤ pos 0 → (pos d *ℤ c) <ℤ pos 0
+negative_times d c p n =
+    let e = less_times c (pos 0) (pos d) (omega (arith, ints)) n in let f = *ℤ_comm c (pos d) in let g = zero-*ℤ (pos d) in omega (arith, ints)
+
+-- a row that holds nowhere
 pub absurd_proves : (rows : List Inequality) (tested : List RowTerm) (r : Derivation) → IsDerived rows tested r → is_absurd r ≡ true → IsEmptyProof rows r.support.multipliers
 absurd_proves rows tested r h e =
     let parts = both_true (has_no_terms r.terms && int_eq r.last (pos 0)) (int_lt r.constant (pos 0)) e in
@@ -121,6 +128,95 @@ absurd_proves rows tested r h e =
         (let f = combined_number rows r.support.multipliers in let g = h.constant in
          let k = negative_times r.support.divisor r.constant h.positive negative in omega (arith, ints)));
     }
-  where
-    negative_times : (d : ℕ) (c : ℤ) → 0 < d → c <ℤ pos 0 → (pos d *ℤ c) <ℤ pos 0
-    negative_times d c p n = ?
+pub abs_above : (z : ℤ) → pos 0 <ℤ z → z ≡ pos (unsigned_abs z)
+abs_above (pos n) h = refl
+abs_above (negsuc n) h = absurd (omega (arith, ints))
+
+pub abs_below : (z : ℤ) → z <ℤ pos 0 → z ≡ neg_ℤ (pos (unsigned_abs z))
+abs_below (pos n) h = absurd (omega (arith, ints))
+abs_below (negsuc n) h = refl
+
+pub size_above : (z : ℤ) → pos 0 <ℤ z → 0 < unsigned_abs z
+size_above (pos n) h = omega (arith, ints)
+size_above (negsuc n) h = absurd (omega (arith, ints))
+
+pub size_below : (z : ℤ) → z <ℤ pos 0 → 0 < unsigned_abs z
+size_below (pos n) h = absurd (omega (arith, ints))
+size_below (negsuc n) h = omega arith
+
+HasNoZero-scaled : (d : ℕ) (ts : List RowTerm) → 0 < d → HasNoZero ts → HasNoZero (scaled_terms (pos d) ts)
+HasNoZero-scaled d [] p h = tt
+HasNoZero-scaled d (t ∷ ts) p h = (λ e. h.0 (cancel_same d t.factor (pos 0) p (e ∙ sym (*ℤ-zero (pos d)))), HasNoZero-scaled d ts p h.1)
+
+not_false : (b : Bool) → (if b then false else true) ≡ true → b ≡ false
+not_false true e = absurd (cc)
+not_false false e = refl
+
+-- an upper bound of the last variable that is low enough
+pub upper_proves : (rows : List Inequality) (row : Inequality) (u : Derivation) → IsCollected row.terms → IsDerived rows row.terms u → bounds_last true u ≡ true → is_at_most row.constant u ≡ true →
+    IsProof rows row u.support.multipliers (u.support.divisor * unsigned_abs u.last)
+upper_proves rows row u collected h bounds e =
+    let parts = both_true (has_no_terms u.terms) (int_lt (pos 0) u.last) bounds in
+    let terms = bare u.terms parts.0 in
+    let above = lt_of (pos 0) u.last parts.1 in
+    let a : ℕ = unsigned_abs u.last in
+    let last = abs_above u.last above in
+    let size = size_above u.last above in
+    let positive : 0 < u.support.divisor * a = mul-pos h.positive size in
+    let sum = combined_is_collected rows u.support.multipliers in
+    let low = ge_of (row.constant *ℤ pos a) (u.constant *ℤ pos 1) (not_false (int_lt (row.constant *ℤ pos a) (u.constant *ℤ pos 1)) e) in
+    let one : u.constant *ℤ pos 1 ≡ u.constant = *ℤ_comm u.constant (pos 1) ∙ one-mul u.constant in
+    let times = mul_monotone u.support.divisor u.constant (row.constant *ℤ pos a) (omega (arith, ints)) in
+    let turned : pos u.support.divisor *ℤ (row.constant *ℤ pos a) ≡ pos (u.support.divisor * a) *ℤ row.constant =
+      ap (λ (z : ℤ). pos u.support.divisor *ℤ z) (*ℤ_comm row.constant (pos a)) ∙ together u.support.divisor a row.constant in
+    record {
+      positive = positive;
+      named = h.named;
+      shown = inl (same_terms (combined_terms rows u.support.multipliers) (scaled_terms (pos (u.support.divisor * a)) row.terms) sum.ascending sum.nonzero
+        (IsAscending-scaled (pos (u.support.divisor * a)) row.terms collected.ascending) (HasNoZero-scaled (u.support.divisor * a) row.terms positive collected.nonzero)
+        (λ v. combined_side v rows u.support.multipliers ∙ sym (h.left v)
+          ∙ ap (λ (z : ℤ). pos u.support.divisor *ℤ z) (left_bare v (sum_at v row.terms) u terms ∙ ap (λ (z : ℤ). z *ℤ sum_at v row.terms) last)
+          ∙ together u.support.divisor a (sum_at v row.terms) ∙ sym (sum_at-scaled v (pos (u.support.divisor * a)) row.terms)),
+        (let f = combined_number rows u.support.multipliers in let g = h.constant in omega (arith, ints)));
+    }
+
+opposite : (a b : ℕ) (z : ℤ) → (pos b *ℤ (pos a *ℤ z)) +ℤ (pos a *ℤ (neg_ℤ (pos b) *ℤ z)) ≡ pos 0
+opposite a b z =
+    let e = neg-mul (pos b) z in
+    let f : pos a *ℤ (neg_ℤ (pos b) *ℤ z) ≡ neg_ℤ (pos a *ℤ (pos b *ℤ z)) = ap (λ (x : ℤ). pos a *ℤ x) e ∙ mul-neg (pos a) (pos b *ℤ z) in
+    let g = regroup b a a b z (omega arith) in omega (arith, ints)
+
+-- a lower bound of the last variable that is above an upper one
+pub bounds_prove : (rows : List Inequality) (tested : List RowTerm) (u l : Derivation) → IsDerived rows tested u → IsDerived rows tested l →
+    bounds_last true u ≡ true → bounds_last false l ≡ true → is_negative_sum (last_limit u) (last_limit l) ≡ true →
+    (0 < (combined_support (unsigned_abs l.last) u.support (unsigned_abs u.last) l.support 1).divisor)
+    × IsEmptyProof rows (combined_support (unsigned_abs l.last) u.support (unsigned_abs u.last) l.support 1).multipliers
+bounds_prove rows tested u l hu hl bu bl e =
+    let pu = both_true (has_no_terms u.terms) (int_lt (pos 0) u.last) bu in
+    let pl = both_true (has_no_terms l.terms) (int_lt l.last (pos 0)) bl in
+    let a : ℕ = unsigned_abs u.last in
+    let b : ℕ = unsigned_abs l.last in
+    let lu = abs_above u.last (lt_of (pos 0) u.last pu.1) in
+    let ll = abs_below l.last (lt_of l.last (pos 0) pl.1) in
+    let one : 0 < 1 = omega arith in
+    let s : Support = combined_support b u.support a l.support 1 in
+    let positive = support_positive b a 1 u.support l.support hu.positive hl.positive one in
+    let number : ℤ = (pos b *ℤ u.constant) +ℤ (pos a *ℤ l.constant) in
+    let total_number = support_combined rows constant_of b a 1 u.support l.support u.constant l.constant number hu.positive hl.positive one hu.constant hl.constant (one-mul number) in
+    let negative : number <ℤ pos 0 =
+      (let f = lt_of ((u.constant *ℤ pos b) +ℤ (l.constant *ℤ pos a)) (pos 0) e in let g = *ℤ_comm u.constant (pos b) in let k = *ℤ_comm l.constant (pos a) in omega (arith, ints)) in
+    let sum = combined_is_collected rows s.multipliers in
+    (positive, record {
+      named = support_named rows b a 1 u.support l.support hu.named hl.named;
+      shown = (same_terms (combined_terms rows s.multipliers) [] sum.ascending sum.nonzero tt tt
+        (λ v.
+          let z : ℤ = sum_at v tested in
+          let fu : left_at v z u ≡ pos a *ℤ z = left_bare v z u (bare u.terms pu.0) ∙ ap (λ (x : ℤ). x *ℤ z) lu in
+          let fl : left_at v z l ≡ neg_ℤ (pos b) *ℤ z = left_bare v z l (bare l.terms pl.0) ∙ ap (λ (x : ℤ). x *ℤ z) ll in
+          let whole : pos 1 *ℤ pos 0 ≡ (pos b *ℤ left_at v z u) +ℤ (pos a *ℤ left_at v z l) =
+            sym (opposite a b z) ∙ ap (λ (x : ℤ). (pos b *ℤ x) +ℤ (pos a *ℤ (neg_ℤ (pos b) *ℤ z))) (sym fu) ∙ ap (λ (x : ℤ). (pos b *ℤ left_at v z u) +ℤ (pos a *ℤ x)) (sym fl) in
+          combined_side v rows s.multipliers
+          ∙ sym (support_combined rows (side_at v) b a 1 u.support l.support (left_at v z u) (left_at v z l) (pos 0) hu.positive hl.positive one (hu.left v) (hl.left v) whole)
+          ∙ *ℤ-zero (pos s.divisor)),
+        (let f = combined_number rows s.multipliers in let g = negative_times s.divisor number positive negative in omega (arith, ints)));
+    })
