@@ -101,7 +101,7 @@ matched_at Q y e all i (q ∷ ps) (suc k) p j n h at positive other negative mad
 opposite_of : (a b : ℤ) → is_zero (a +ℤ b) ≡ true → a ≡ neg_ℤ b
 opposite_of a b e = let f : a +ℤ b ≡ pos 0 = is_zero_of (a +ℤ b) e in omega (arith, ints)
 
-equal_of : (o : Ordering) → is_eq o ≡ true → o ≡ Equal
+pub equal_of : (o : Ordering) → is_eq o ≡ true → o ≡ Equal
 equal_of Less e = absurd (cc)
 equal_of Equal e = refl
 equal_of Greater e = absurd (cc)
@@ -265,7 +265,7 @@ through y v z d all e i j a b p n ep en h at_p pos_p at_n neg_n at_ep pos_ep at_
     (subst (λ (x : ℤ). Agree (size_of y p) (room v z d p) (size_of y ep) x) opposite (subst (λ (m : ℕ). Agree (size_of y p) (room v z d p) m (room v z d en)) same first))
     second
 
-signed : (x : ℤ) → is_zero x ≡ false → (int_lt (pos 0) x ≡ true) ⊎ (int_lt x (pos 0) ≡ true)
+pub signed : (x : ℤ) → is_zero x ≡ false → (int_lt (pos 0) x ≡ true) ⊎ (int_lt x (pos 0) ≡ true)
 signed (pos zero) h = absurd (cc)
 signed (pos (suc n)) h = inl (lt_true (pos 0) (pos (suc n)) (omega (arith, ints)))
 signed (negsuc n) h = inr (lt_true (negsuc n) (pos 0) (omega (arith, ints)))

@@ -13,3 +13,5 @@ pub mod Following
 pub mod Proving
 pub mod Agreeing
 pub mod Reaching
+pub mod Limiting
+pub mod Meeting

@@ -77,7 +77,7 @@ spread y n m v x = if is_eq (var_cmp x y) then n else m *ℤ v x
 extended_number : (y : Var) (n : ℤ) (m : ℕ) (p : Placed) (x : Var) → numbers_at (extended y n m p) x ≡ spread y n (pos m) (numbers_at p) x
 extended_number y n m p x = ap (λ (z : ℤ). if is_eq (var_cmp x y) then n else z) (number-scaled (pos m) p.vars p.numbers x)
 
-same_sum : (v w : Valuation) (ts : List RowTerm) → ((x : Var) → v x ≡ w x) → sum_at v ts ≡ sum_at w ts
+pub same_sum : (v w : Valuation) (ts : List RowTerm) → ((x : Var) → v x ≡ w x) → sum_at v ts ≡ sum_at w ts
 same_sum v w [] e = refl
 same_sum v w (t ∷ ts) e =
     let f : t.factor *ℤ v t.var ≡ t.factor *ℤ w t.var = ap (λ (z : ℤ). t.factor *ℤ z) (e t.var) in let g = same_sum v w ts e in omega (arith, ints)
