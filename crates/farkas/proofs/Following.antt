@@ -61,11 +61,11 @@ abbrev pub EachMatch : (Derivation → Derivation → Type 0) → List Match →
 EachMatch Q [] = Unit {0}
 EachMatch Q (m ∷ ms) = Q m.positive m.negative × EachMatch Q ms
 
-choose_matches : (Q : Derivation → Derivation → Type 0) (b : Bool) (ms ns : List Match) → EachMatch Q ms → EachMatch Q ns → EachMatch Q (if b then ms else ns)
+pub choose_matches : (Q : Derivation → Derivation → Type 0) (b : Bool) (ms ns : List Match) → EachMatch Q ms → EachMatch Q ns → EachMatch Q (if b then ms else ns)
 choose_matches Q true ms ns h k = h
 choose_matches Q false ms ns h k = k
 
-EachMatch-append : (Q : Derivation → Derivation → Type 0) (ms ns : List Match) → EachMatch Q ms → EachMatch Q ns → EachMatch Q (ms ++ ns)
+pub EachMatch-append : (Q : Derivation → Derivation → Type 0) (ms ns : List Match) → EachMatch Q ms → EachMatch Q ns → EachMatch Q (ms ++ ns)
 EachMatch-append Q [] ns h k = k
 EachMatch-append Q (m ∷ ms) ns h k = (h.0, EachMatch-append Q ms ns h.1 k)
 
@@ -78,7 +78,7 @@ matches_of-both P y e i p j (n ∷ ns) h k =
     let rest = matches_of-both P y e i p (j + 1) ns h k.1 in
     choose_matches (Both P) (has_negative y n && is_made e i j) (record { positive = p; negative = n } ∷ matches_of y e i p (j + 1) ns) (matches_of y e i p (j + 1) ns) ((h, k.0), rest) rest
 
-matches_from-both : (P : Derivation → Type 0) (y : Var) (e : Option Equality) (all : List Derivation) (i : ℕ) (ps : List Derivation) → Each P all → Each P ps → EachMatch (Both P) (matches_from y e all i ps)
+pub matches_from-both : (P : Derivation → Type 0) (y : Var) (e : Option Equality) (all : List Derivation) (i : ℕ) (ps : List Derivation) → Each P all → Each P ps → EachMatch (Both P) (matches_from y e all i ps)
 matches_from-both P y e all i [] h k = tt
 matches_from-both P y e all i (p ∷ ps) h k =
     EachMatch-append (Both P) (if has_positive y p then matches_of y e i p 0 all else []) (matches_from y e all (i + 1) ps)

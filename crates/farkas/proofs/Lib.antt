@@ -15,3 +15,6 @@ pub mod Agreeing
 pub mod Reaching
 pub mod Limiting
 pub mod Meeting
+pub mod Standing
+pub mod Covering
+pub mod Concluding

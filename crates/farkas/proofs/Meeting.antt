@@ -57,10 +57,10 @@ alike_holds p s r d e le h =
     let product = ap (λ (z : ℤ). z *ℤ p.last) last in
     let more = at_most_times s.constant r.constant p.divisor d le in omega (arith, ints)
 
-le_of : (a b : ℤ) → int_le a b ≡ true → a ≤ℤ b
+pub le_of : (a b : ℤ) → int_le a b ≡ true → a ≤ℤ b
 le_of a b e = grind (arith, ints)
 
-gt_of : (a b : ℤ) → int_le a b ≡ false → b ≤ℤ a
+pub gt_of : (a b : ℤ) → int_le a b ≡ false → b ≤ℤ a
 gt_of a b e = grind (arith, ints)
 
 either_true : (a b : Bool) → (a || b) ≡ true → (a ≡ true) ⊎ (b ≡ true)
@@ -130,7 +130,7 @@ each_holds p rs (s ∷ ss) d h =
     (one.0, (one.1, rest.1))
 
 -- where the combinations hold, each match agrees
-matches_agree : (p : Placed) (y : Var) (ms : List Match) → Each (At p) (combined y ms) → EachMatch (AgreeAt y (numbers_at p) p.last p.divisor) ms
+pub matches_agree : (p : Placed) (y : Var) (ms : List Match) → Each (At p) (combined y ms) → EachMatch (AgreeAt y (numbers_at p) p.last p.divisor) ms
 matches_agree p y [] h = tt
 matches_agree p y (m ∷ ms) h =
     (sum_agrees (numbers_at p) p.last p.divisor (size_of y m.negative) (size_of y m.positive) m.positive m.negative h.0, matches_agree p y ms h.1)
@@ -174,11 +174,11 @@ pub each_without : (y : Var) (rs : List Derivation) → Each (λ s. factor_of y 
 each_without y [] = tt
 each_without y (r ∷ rs) = no_zero y r rs (each_without y rs) (is_zero (factor_of y r.terms)) refl
 
-both_each : (P Q : Derivation → Type 0) (rs : List Derivation) → Each P rs → Each Q rs → Each (λ r. P r × Q r) rs
+pub both_each : (P Q : Derivation → Type 0) (rs : List Derivation) → Each P rs → Each Q rs → Each (λ r. P r × Q r) rs
 both_each P Q [] h k = tt
 both_each P Q (r ∷ rs) h k = ((h.0, k.0), both_each P Q rs h.1 k.1)
 
-mapped : (P Q : Derivation → Type 0) (rs : List Derivation) → ((r : Derivation) → P r → Q r) → Each P rs → Each Q rs
+pub mapped : (P Q : Derivation → Type 0) (rs : List Derivation) → ((r : Derivation) → P r → Q r) → Each P rs → Each Q rs
 mapped P Q [] f h = tt
 mapped P Q (r ∷ rs) f h = (f r h.0, mapped P Q rs f h.1)
 

@@ -56,13 +56,13 @@ unit_other x y e = ap (λ (o : Ordering). if is_eq o then pos 1 else pos 0) e
 unit_itself : (x : Var) → unit x x ≡ pos 1
 unit_itself x = ap (λ (o : Ordering). if is_eq o then pos 1 else pos 0) (equal_itself x)
 
-unit_behind : (x : Var) (ts : List RowTerm) → Follows x ts → sum_at (unit x) ts ≡ pos 0
+pub unit_behind : (x : Var) (ts : List RowTerm) → Follows x ts → sum_at (unit x) ts ≡ pos 0
 unit_behind x [] h = refl
 unit_behind x (t ∷ ts) h =
     let e : t.factor *ℤ unit x t.var ≡ pos 0 = ap (λ (z : ℤ). t.factor *ℤ z) (unit_other x t.var h.0) ∙ *ℤ-zero t.factor in
     let f = unit_behind x ts h.1 in omega (arith, ints)
 
-unit_first : (t : RowTerm) (ts : List RowTerm) → Follows t.var ts → sum_at (unit t.var) (t ∷ ts) ≡ t.factor
+pub unit_first : (t : RowTerm) (ts : List RowTerm) → Follows t.var ts → sum_at (unit t.var) (t ∷ ts) ≡ t.factor
 unit_first t ts h =
     let e : t.factor *ℤ unit t.var t.var ≡ t.factor *ℤ pos 1 = ap (λ (z : ℤ). t.factor *ℤ z) (unit_itself t.var) in
     let f = *ℤ_comm t.factor (pos 1) in let g = one-mul t.factor in
@@ -104,7 +104,7 @@ pub ge_of : (a b : ℤ) → int_lt a b ≡ false → b ≤ℤ a
 ge_of a b e = grind (arith, ints)
 
 -- a row without terms at a valuation
-left_bare : (v : Valuation) (z : ℤ) (r : Derivation) → r.terms ≡ [] → left_at v z r ≡ r.last *ℤ z
+pub left_bare : (v : Valuation) (z : ℤ) (r : Derivation) → r.terms ≡ [] → left_at v z r ≡ r.last *ℤ z
 left_bare v z r e = let f : sum_at v r.terms ≡ pos 0 = ap (sum_at v) e in omega (arith, ints)
 
 negative_times : (d : ℕ) (c : ℤ) → 0 < d → c <ℤ pos 0 → (pos d *ℤ c) <ℤ pos 0
@@ -148,7 +148,7 @@ HasNoZero-scaled : (d : ℕ) (ts : List RowTerm) → 0 < d → HasNoZero ts → 
 HasNoZero-scaled d [] p h = tt
 HasNoZero-scaled d (t ∷ ts) p h = (λ e. h.0 (cancel_same d t.factor (pos 0) p (e ∙ sym (*ℤ-zero (pos d)))), HasNoZero-scaled d ts p h.1)
 
-not_false : (b : Bool) → (if b then false else true) ≡ true → b ≡ false
+pub not_false : (b : Bool) → (if b then false else true) ≡ true → b ≡ false
 not_false true e = absurd (cc)
 not_false false e = refl
 

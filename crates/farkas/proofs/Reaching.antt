@@ -86,7 +86,7 @@ spread_at : (y : Var) (n m : ℤ) (v : Valuation) (x : Var) (o : Ordering) → v
 spread_at y n m v x o e = ap (λ (q : Ordering). if is_eq q then n else m *ℤ v x) e
 
 -- the factor of a variable that comes before all is 0
-factor_behind : (y : Var) (ts : List RowTerm) → Follows y ts → factor_of y ts ≡ pos 0
+pub factor_behind : (y : Var) (ts : List RowTerm) → Follows y ts → factor_of y ts ≡ pos 0
 factor_behind y [] h = refl
 factor_behind y (t ∷ ts) h = ap (λ (o : Ordering). if is_eq o then t.factor else factor_of y ts) h.0 ∙ factor_behind y ts h.1
 
