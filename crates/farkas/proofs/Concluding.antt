@@ -9,8 +9,10 @@ use Rattle.linear_rows.specs.Rows.{Inequality, Valuation, sum_at}
 use Rattle.linear_rows.specs.Terms.{IsCollected, is_zero, scaled_terms}
 use Rattle.linear_rows.proofs.TermLists.{is_zero_of, zero_or_not}
 use Rattle.linear_rows.proofs.Values.{sum_at-scaled}
-use Rattle.linear_rows.proofs.Integers.{neg-mul, mul-neg, mul-add}
+use Rattle.linear_rows.proofs.Integers.{neg-mul, mul-neg, mul-add, add-mul}
 use Rattle.farkas.specs.declared.answers.RationalPoint.{RationalPoint}
+use Rattle.farkas.specs.declared.answers.Answer.{Answer}
+use Rattle.farkas.specs.declared.answers.Answer.TheVariants.{Proved}
 use Rattle.farkas.specs.declared.placing.Placed.{Placed}
 use Rattle.farkas.specs.declared.placing.Limit.{Limit}
 use Rattle.farkas.specs.declared.placing.Level.{Level}
@@ -18,10 +20,12 @@ use Rattle.farkas.specs.Points.{Meets, MeetsEach, Breaks, valuation_of, IsPoint,
 use Rattle.farkas.specs.Evidence.{IsProof, IsEmptyProof, IsRefutation, IsWitness}
 use Rattle.farkas.specs.Answers.{CarriesEvidence, CarriesEmptiness}
 use Rattle.farkas.specs.Derivations.{Derivation, given, given_from, at_most_last, at_least_last, left_at, HoldsAt}
+use Rattle.farkas.specs.Weights.{combined_support}
 use Rattle.farkas.specs.Steps.{has_no_terms, run}
 use Rattle.farkas.specs.Placing.{is_less, levels_of, raised}
 use Rattle.farkas.specs.Deciding.{is_absurd, first_absurd, bounds_last, last_limit, tighter, tightest, is_at_most, is_negative_sum, last_at, start_above, point_of, refuted_from, by_bounds, by_upper, by_absurd, decided, emptiness_by, start_of, variables_of, vars_of, answer_of_run, emptiness_of_run}
-use Rattle.farkas.proofs.Soundness.{cancel, one-mul}
+use Rattle.linear_rows.proofs.Rounding.{mul_monotone}
+use Rattle.farkas.proofs.Soundness.{cancel, one-mul, at_most_times}
 use Rattle.farkas.proofs.Rings.{regroup}
 use Rattle.farkas.proofs.Deriving.{IsDerived}
 use Rattle.farkas.proofs.Following.{Each, Each-front, start_derived, run_derived, given_all_derived}
@@ -150,12 +154,269 @@ and_true false b e f = absurd (cc)
 lt_true : (a b : ℤ) → a <ℤ b → int_lt a b ≡ true
 lt_true a b h = grind (arith, ints)
 
+true_and : (a b : Bool) → a ≡ true → (a && b) ≡ false → b ≡ false
+true_and true b e f = f
+true_and false b e f = absurd (cc)
+
+left_of : (z d : ℤ) (r : Derivation) → r.terms ≡ [] → (r.last *ℤ z) ≤ℤ (r.constant *ℤ d) → At (last_at z d) r
+left_of z d r e h = let f : sum_at (numbers_at (last_at z d)) r.terms ≡ pos 0 = ap (sum_at (numbers_at (last_at z d))) e in omega (arith, ints)
+
 -- a row without terms holds by its bound of the last variable
 by_sign : (r : Derivation) (z d : ℤ) → r.terms ≡ [] → pos 0 <ℤ d → is_absurd r ≡ false →
     (bounds_last true r ≡ true → (pos (unsigned_abs r.last) *ℤ z) ≤ℤ (r.constant *ℤ d)) →
     (bounds_last false r ≡ true → pos 0 ≤ℤ ((pos (unsigned_abs r.last) *ℤ z) +ℤ (r.constant *ℤ d))) → At (last_at z d) r
-by_sign r z d bare above plain up down = ?
+by_sign r z d bare above plain up down = cases r.last refl
+  where
+    terms : has_no_terms r.terms ≡ true
+    terms = no_terms_test r.terms bare
+    cases : (l : ℤ) → r.last ≡ l → At (last_at z d) r
+    cases (pos zero) e =
+        let zero_last : is_zero r.last ≡ true = ap is_zero e in
+        let c = ge_of r.constant (pos 0) (true_and (has_no_terms r.terms && is_zero r.last) (int_lt r.constant (pos 0)) (and_true (has_no_terms r.terms) (is_zero r.last) terms zero_last) plain) in
+        let f = at_most_times (pos 0) r.constant d above c in
+        let g : r.last *ℤ z ≡ pos 0 *ℤ z = ap (λ (x : ℤ). x *ℤ z) e in
+        let k = zero-*ℤ z in let m = zero-*ℤ d in left_of z d r bare (omega (arith, ints))
+    cases (pos (suc n)) e =
+        let positive : pos 0 <ℤ r.last = omega (arith, ints) in
+        let f = up (and_true (has_no_terms r.terms) (int_lt (pos 0) r.last) terms (lt_true (pos 0) r.last positive)) in
+        let g : r.last *ℤ z ≡ pos (unsigned_abs r.last) *ℤ z = ap (λ (x : ℤ). x *ℤ z) (abs_above r.last positive) in
+        left_of z d r bare (omega (arith, ints))
+    cases (negsuc n) e =
+        let negative : r.last <ℤ pos 0 = omega (arith, ints) in
+        let f = down (and_true (has_no_terms r.terms) (int_lt r.last (pos 0)) terms (lt_true r.last (pos 0) negative)) in
+        let g : r.last *ℤ z ≡ neg_ℤ (pos (unsigned_abs r.last) *ℤ z) = ap (λ (x : ℤ). x *ℤ z) (abs_below r.last negative) ∙ neg-mul (pos (unsigned_abs r.last)) z in
+        left_of z d r bare (omega (arith, ints))
 
+-- a greater lower bound leaves room below an upper one
+chain : (x l r : ℤ) (a b c : ℕ) → 0 < b → pos 0 ≤ℤ ((x *ℤ pos b) +ℤ (l *ℤ pos a)) → (l *ℤ pos c) ≤ℤ (r *ℤ pos b) → pos 0 ≤ℤ ((pos c *ℤ x) +ℤ (r *ℤ pos a))
+chain x l r a b c h e f =
+    let first = mul_monotone c (pos 0) ((x *ℤ pos b) +ℤ (l *ℤ pos a)) e in
+    let second = mul_monotone a (l *ℤ pos c) (r *ℤ pos b) f in
+    let z = *ℤ-zero (pos c) in let zb = *ℤ-zero (pos b) in
+    let s1 = mul-add (pos c) (x *ℤ pos b) (l *ℤ pos a) in
+    let s2 = mul-add (pos b) (pos c *ℤ x) (r *ℤ pos a) in
+    let t1 : pos c *ℤ (x *ℤ pos b) ≡ pos b *ℤ (pos c *ℤ x) = ap (λ (y : ℤ). pos c *ℤ y) (*ℤ_comm x (pos b)) ∙ regroup c b b c x (omega arith) in
+    let t2 : pos c *ℤ (l *ℤ pos a) ≡ pos a *ℤ (l *ℤ pos c) = ap (λ (y : ℤ). pos c *ℤ y) (*ℤ_comm l (pos a)) ∙ regroup c a a c l (omega arith) ∙ ap (λ (y : ℤ). pos a *ℤ y) (*ℤ_comm (pos c) l) in
+    let t3 : pos a *ℤ (r *ℤ pos b) ≡ pos b *ℤ (r *ℤ pos a) = ap (λ (y : ℤ). pos a *ℤ y) (*ℤ_comm r (pos b)) ∙ regroup a b b a r (omega arith) ∙ ap (λ (y : ℤ). pos b *ℤ y) (*ℤ_comm (pos a) r) in
+    cancel b (pos 0) ((pos c *ℤ x) +ℤ (r *ℤ pos a)) h (omega (arith, ints))
+
+-- a row that is left: it follows, and has no terms
 record IsLeft (rows : List Inequality) (tested : List RowTerm) (r : Derivation) : Type 0 where
   derived : IsDerived rows tested r
   bare : r.terms ≡ []
+
+-- what a start of the last variable has to give
+pub record Starts (k z d : ℤ) (left : List Derivation) : Type 0 where
+  pub above : pos 0 <ℤ d
+  pub past : (k *ℤ d) <ℤ z
+  pub holds : Each (At (last_at z d)) left
+
+each_at : (rows : List Inequality) (tested : List RowTerm) (z d : ℤ) (left : List Derivation) → pos 0 <ℤ d → Each (IsLeft rows tested) left → Each (λ r. is_absurd r ≡ false) left →
+    Each (λ r. bounds_last true r ≡ true → (pos (unsigned_abs r.last) *ℤ z) ≤ℤ (r.constant *ℤ d)) left →
+    Each (λ r. bounds_last false r ≡ true → pos 0 ≤ℤ ((pos (unsigned_abs r.last) *ℤ z) +ℤ (r.constant *ℤ d))) left → Each (At (last_at z d)) left
+each_at rows tested z d [] above l a u b = tt
+each_at rows tested z d (r ∷ rs) above l a u b = (by_sign r z d l.0.bare above a.0 u.0 b.0, each_at rows tested z d rs above l.1 a.1 u.1 b.1)
+
+none_such : (up : Bool) (Q : Derivation → Type 0) (rs : List Derivation) → Each (λ r. bounds_last up r ≡ false) rs → Each (λ r. bounds_last up r ≡ true → Q r) rs
+none_such up Q [] h = tt
+none_such up Q (r ∷ rs) h = ((λ e. absurd (let f : true ≡ false = sym e ∙ h.0 in cc)), none_such up Q rs h.1)
+
+-- from the least upper bound
+from_upper : (rows : List Inequality) (tested : List RowTerm) (k : ℤ) (left : List Derivation) (u : Derivation) → Each (IsLeft rows tested) left → Each (λ r. is_absurd r ≡ false) left →
+    Tight (IsLeft rows tested) true left u → is_at_most k u ≡ false →
+    Each (λ r. bounds_last false r ≡ true → pos 0 ≤ℤ ((pos (unsigned_abs r.last) *ℤ u.constant) +ℤ (r.constant *ℤ u.last))) left → Starts k u.constant u.last left
+from_upper rows tested k left u l a t e lower =
+    let above = lt_of (pos 0) u.last (both_true (has_no_terms u.terms) (int_lt (pos 0) u.last) t.test).1 in
+    let last = abs_above u.last above in
+    let past = lt_of (k *ℤ pos (unsigned_abs u.last)) (u.constant *ℤ pos 1) (if_true (int_lt (k *ℤ pos (unsigned_abs u.last)) (u.constant *ℤ pos 1)) e) in
+    let one : u.constant *ℤ pos 1 ≡ u.constant = *ℤ_comm u.constant (pos 1) ∙ one-mul u.constant in
+    let times : k *ℤ u.last ≡ k *ℤ pos (unsigned_abs u.last) = ap (λ (x : ℤ). k *ℤ x) last in
+    record {
+      above = above;
+      past = omega (arith, ints);
+      holds = each_at rows tested u.constant u.last left above l a
+        (mapped (λ s. bounds_last true s ≡ true → Le (last_limit u) (last_limit s)) (λ s. bounds_last true s ≡ true → (pos (unsigned_abs s.last) *ℤ u.constant) ≤ℤ (s.constant *ℤ u.last)) left
+          (λ s h b. let f = h b in let g = *ℤ_comm u.constant (pos (unsigned_abs s.last)) in let m : s.constant *ℤ u.last ≡ s.constant *ℤ pos (unsigned_abs u.last) = ap (λ (x : ℤ). s.constant *ℤ x) last in omega (arith, ints))
+          t.least) lower;
+    }
+  where
+    if_true : (b : Bool) → (if b then false else true) ≡ false → b ≡ true
+    if_true true f = refl
+    if_true false f = absurd (cc)
+
+lower_room : (rows : List Inequality) (tested : List RowTerm) (left : List Derivation) (x d : ℤ) (a : ℕ) (l : Derivation) → d ≡ pos a → Tight (IsLeft rows tested) false left l →
+    pos 0 ≤ℤ ((x *ℤ pos (unsigned_abs l.last)) +ℤ (l.constant *ℤ pos a)) →
+    Each (λ r. bounds_last false r ≡ true → pos 0 ≤ℤ ((pos (unsigned_abs r.last) *ℤ x) +ℤ (r.constant *ℤ d))) left
+lower_room rows tested left x d a l same t h =
+    mapped (λ s. bounds_last false s ≡ true → Le (last_limit l) (last_limit s)) (λ s. bounds_last false s ≡ true → pos 0 ≤ℤ ((pos (unsigned_abs s.last) *ℤ x) +ℤ (s.constant *ℤ d))) left
+    (λ s k b.
+      let f = chain x l.constant s.constant a (unsigned_abs l.last) (unsigned_abs s.last) (last_sized false l t.test) h (k b) in
+      let g : s.constant *ℤ d ≡ s.constant *ℤ pos a = ap (λ (y : ℤ). s.constant *ℤ y) same in omega (arith, ints)) t.least
+
+-- ---- the answer
+
+given_meets : (q : Placed) (rows : List Inequality) (place : ℕ) → Each (At q) (given_from place rows) → MeetsEach (numbers_at q) q.divisor rows
+given_meets q [] place h = tt
+given_meets q (row ∷ rows) place h = ((let e = zero-*ℤ q.last in let f = h.0 in omega (arith, ints)), given_meets q rows (place + 1) h.1)
+
+pub refutes : (rows : List Inequality) (row : Inequality) (z d : ℤ) → Each (λ r. IsCollected r.terms) (start_of rows row) →
+    Starts row.constant z d (run (variables_of rows row) (start_of rows row)) →
+    IsRefutation rows row (point_of (raised (levels_of (variables_of rows row) (start_of rows row)) (last_at z d)))
+refutes rows row z d collected s =
+    let vars : List Var = variables_of rows row in
+    let start : List Derivation = start_of rows row in
+    let m = raised_reaches vars start (last_at z d) (variables_distinct rows row) collected (record { positive = s.above; vars = refl; numbered = refl }) s.holds in
+    let q : Placed = raised (levels_of vars start) (last_at z d) in
+    let parts = Each-front (At q) (given_from 0 rows) (at_most_last row.terms ∷ at_least_last row.terms ∷ []) m.holds in
+    let over = m.above row.constant s.past in
+    let low = parts.1.1.0 in
+    let sum = sum_at-scaled (numbers_at q) (negsuc 0) row.terms in
+    let minus = minus_one (sum_at (numbers_at q) row.terms) in
+    let one = one-mul q.last in
+    let none = zero-*ℤ q.divisor in
+    record {
+      point = record {
+        positive = m.stands.positive;
+        numbered = m.stands.numbered;
+        distinct = subst (λ (vs : List Var). IsDistinct vs) (sym m.stands.vars) (variables_distinct rows row);
+      };
+      meets = given_meets q rows 0 parts.0;
+      breaks = omega (arith, ints);
+    }
+  where
+    minus_one : (x : ℤ) → x +ℤ (negsuc 0 *ℤ x) ≡ pos 0
+    minus_one x = omega (arith, ints)
+
+all_left : (rows : List Inequality) (row : Inequality) → Each (λ r. IsCollected r.terms) (start_of rows row) → Each (IsLeft rows row.terms) (run (variables_of rows row) (start_of rows row))
+all_left rows row collected =
+    let left : List Derivation = run (variables_of rows row) (start_of rows row) in
+    mapped (λ r. IsDerived rows row.terms r × (r.terms ≡ [])) (IsLeft rows row.terms) left (λ r h. record { derived = h.0; bare = h.1 })
+    (both_each (IsDerived rows row.terms) (λ r. r.terms ≡ []) left (run_derived (variables_of rows row) rows row.terms (start_of rows row) (start_derived rows row))
+      (run_bare (variables_of rows row) (start_of rows row) (start_covered rows row) collected))
+
+one_past : (k : ℤ) → (k *ℤ pos 1) <ℤ (k +ℤ pos 1)
+one_past k = let e = *ℤ_comm k (pos 1) in let f = one-mul k in omega (arith, ints)
+
+abbrev LeftOf : List Inequality → Inequality → List Derivation
+LeftOf rows row = run (variables_of rows row) (start_of rows row)
+
+abbrev LevelsOf : List Inequality → Inequality → List Level
+LevelsOf rows row = levels_of (variables_of rows row) (start_of rows row)
+
+choose_place : (b : Bool) (x y : Placed) (c : Bool) → b ≡ c → (if b then x else y) ≡ (if c then x else y)
+choose_place b x y c e = ap (λ (d : Bool). if d then x else y) e
+
+without_bounds : (rows : List Inequality) (row : Inequality) → Each (λ r. IsCollected r.terms) (start_of rows row) → Each (λ r. is_absurd r ≡ false) (LeftOf rows row) →
+    NoBound true (LeftOf rows row) → NoBound false (LeftOf rows row) → Starts row.constant (row.constant +ℤ pos 1) (pos 1) (LeftOf rows row)
+without_bounds rows row c a u l =
+    let left : List Derivation = LeftOf rows row in
+    let z : ℤ = row.constant +ℤ pos 1 in
+    record {
+      above = omega (arith, ints);
+      past = one_past row.constant;
+      holds = each_at rows row.terms z (pos 1) left (omega (arith, ints)) (all_left rows row c) a
+        (none_such true (λ r. (pos (unsigned_abs r.last) *ℤ z) ≤ℤ (r.constant *ℤ pos 1)) left u.none)
+        (none_such false (λ r. pos 0 ≤ℤ ((pos (unsigned_abs r.last) *ℤ z) +ℤ (r.constant *ℤ pos 1))) left l.none);
+    }
+
+-- the greatest lower bound is at most one more than the tested constant
+bound_low : (rows : List Inequality) (row : Inequality) → Each (λ r. IsCollected r.terms) (start_of rows row) → Each (λ r. is_absurd r ≡ false) (LeftOf rows row) →
+    NoBound true (LeftOf rows row) → (l : Derivation) → Tight (IsLeft rows row.terms) false (LeftOf rows row) l →
+    is_negative_sum (last_limit l) (record { slack = row.constant +ℤ pos 1; size = 1 }) ≡ false → Starts row.constant (row.constant +ℤ pos 1) (pos 1) (LeftOf rows row)
+bound_low rows row c a u l t e =
+    let left : List Derivation = LeftOf rows row in
+    let z : ℤ = row.constant +ℤ pos 1 in
+    let h = ge_of ((l.constant *ℤ pos 1) +ℤ (z *ℤ pos (unsigned_abs l.last))) (pos 0) e in
+    record {
+      above = omega (arith, ints);
+      past = one_past row.constant;
+      holds = each_at rows row.terms z (pos 1) left (omega (arith, ints)) (all_left rows row c) a
+        (none_such true (λ r. (pos (unsigned_abs r.last) *ℤ z) ≤ℤ (r.constant *ℤ pos 1)) left u.none)
+        (lower_room rows row.terms left z (pos 1) 1 l refl t (omega (arith, ints)));
+    }
+
+minus_last : (x : ℤ) (n : ℕ) → x ≡ neg_ℤ (pos n) → pos 0 -ℤ x ≡ pos n
+minus_last x n e = omega (arith, ints)
+
+-- or it is greater
+bound_high : (rows : List Inequality) (row : Inequality) → Each (λ r. IsCollected r.terms) (start_of rows row) → Each (λ r. is_absurd r ≡ false) (LeftOf rows row) →
+    NoBound true (LeftOf rows row) → (l : Derivation) → Tight (IsLeft rows row.terms) false (LeftOf rows row) l →
+    is_negative_sum (last_limit l) (record { slack = row.constant +ℤ pos 1; size = 1 }) ≡ true → Starts row.constant (pos 0 -ℤ l.constant) (pos 0 -ℤ l.last) (LeftOf rows row)
+bound_high rows row c a u l t e =
+    let left : List Derivation = LeftOf rows row in
+    let n : ℕ = unsigned_abs l.last in
+    let k : ℤ = row.constant in
+    let last = minus_last l.last n (abs_below l.last (lt_of l.last (pos 0) (both_true (has_no_terms l.terms) (int_lt l.last (pos 0)) t.test).1)) in
+    let size = last_sized false l t.test in
+    let h = lt_of ((l.constant *ℤ pos 1) +ℤ ((k +ℤ pos 1) *ℤ pos n)) (pos 0) e in
+    let one : l.constant *ℤ pos 1 ≡ l.constant = *ℤ_comm l.constant (pos 1) ∙ one-mul l.constant in
+    let split = add-mul k (pos 1) (pos n) in
+    let one' = one-mul (pos n) in
+    let times : k *ℤ (pos 0 -ℤ l.last) ≡ k *ℤ pos n = ap (λ (x : ℤ). k *ℤ x) last in
+    record {
+      above = omega (arith, ints);
+      past = omega (arith, ints);
+      holds = each_at rows row.terms (pos 0 -ℤ l.constant) (pos 0 -ℤ l.last) left (omega (arith, ints)) (all_left rows row c) a
+        (none_such true (λ r. (pos (unsigned_abs r.last) *ℤ (pos 0 -ℤ l.constant)) ≤ℤ (r.constant *ℤ (pos 0 -ℤ l.last))) left u.none)
+        (mapped (λ s. bounds_last false s ≡ true → Le (last_limit l) (last_limit s)) (λ s. bounds_last false s ≡ true → pos 0 ≤ℤ ((pos (unsigned_abs s.last) *ℤ (pos 0 -ℤ l.constant)) +ℤ (s.constant *ℤ (pos 0 -ℤ l.last)))) left
+          (λ s f b.
+            let g = f b in
+            let m : ℕ = unsigned_abs s.last in
+            let p : s.constant *ℤ (pos 0 -ℤ l.last) ≡ s.constant *ℤ pos n = ap (λ (x : ℤ). s.constant *ℤ x) last in
+            let q : pos 0 -ℤ l.constant ≡ neg_ℤ l.constant = omega (arith, ints) in
+            let r : pos m *ℤ (pos 0 -ℤ l.constant) ≡ pos m *ℤ neg_ℤ l.constant = ap (λ (x : ℤ). pos m *ℤ x) q in
+            let w = mul-neg (pos m) l.constant in let y = *ℤ_comm l.constant (pos m) in omega (arith, ints)) t.least);
+    }
+
+above_carries : (rows : List Inequality) (row : Inequality) → Each (λ r. IsCollected r.terms) (start_of rows row) → Each (λ r. is_absurd r ≡ false) (LeftOf rows row) →
+    NoBound true (LeftOf rows row) → NoBound false (LeftOf rows row) ⊎ SomeBound (IsLeft rows row.terms) false (LeftOf rows row) →
+    CarriesEvidence rows row (refuted_from (LevelsOf rows row) (start_above row.constant (tightest false None (LeftOf rows row))))
+above_carries rows row c a u (inl l) =
+    subst (λ (o : Option Derivation). CarriesEvidence rows row (refuted_from (LevelsOf rows row) (start_above row.constant o))) (sym l.found)
+    (refutes rows row (row.constant +ℤ pos 1) (pos 1) c (without_bounds rows row c a u l))
+above_carries rows row c a u (inr s) =
+    let test : Bool = is_negative_sum (last_limit s.bound) (record { slack = row.constant +ℤ pos 1; size = 1 }) in
+    subst (λ (o : Option Derivation). CarriesEvidence rows row (refuted_from (LevelsOf rows row) (start_above row.constant o))) (sym s.found)
+    (cases test refl)
+  where
+    cases : (b : Bool) → is_negative_sum (last_limit s.bound) (record { slack = row.constant +ℤ pos 1; size = 1 }) ≡ b → CarriesEvidence rows row (refuted_from (LevelsOf rows row) (start_above row.constant (Some s.bound)))
+    cases true e =
+        subst (λ (p : Placed). CarriesEvidence rows row (refuted_from (LevelsOf rows row) p)) (sym (choose_place (is_negative_sum (last_limit s.bound) (record { slack = row.constant +ℤ pos 1; size = 1 })) (last_at (pos 0 -ℤ s.bound.constant) (pos 0 -ℤ s.bound.last)) (last_at (row.constant +ℤ pos 1) (pos 1)) true e))
+        (refutes rows row (pos 0 -ℤ s.bound.constant) (pos 0 -ℤ s.bound.last) c (bound_high rows row c a u s.bound s.known e))
+    cases false e =
+        subst (λ (p : Placed). CarriesEvidence rows row (refuted_from (LevelsOf rows row) p)) (sym (choose_place (is_negative_sum (last_limit s.bound) (record { slack = row.constant +ℤ pos 1; size = 1 })) (last_at (pos 0 -ℤ s.bound.constant) (pos 0 -ℤ s.bound.last)) (last_at (row.constant +ℤ pos 1) (pos 1)) false e))
+        (refutes rows row (row.constant +ℤ pos 1) (pos 1) c (bound_low rows row c a u s.bound s.known e))
+
+abbrev proved_by_bounds : Derivation → Derivation → Answer
+proved_by_bounds u l =
+    Proved (combined_support (unsigned_abs l.last) u.support (unsigned_abs u.last) l.support 1).multipliers
+    (combined_support (unsigned_abs l.last) u.support (unsigned_abs u.last) l.support 1).divisor
+
+choose_answer : (b : Bool) (x y : Answer) (c : Bool) → b ≡ c → (if b then x else y) ≡ (if c then x else y)
+choose_answer b x y c e = ap (λ (d : Bool). if d then x else y) e
+
+bounds_carry : (rows : List Inequality) (row : Inequality) → Each (λ r. IsCollected r.terms) (start_of rows row) → Each (λ r. is_absurd r ≡ false) (LeftOf rows row) →
+    (u : Derivation) → Tight (IsLeft rows row.terms) true (LeftOf rows row) u → is_at_most row.constant u ≡ false →
+    NoBound false (LeftOf rows row) ⊎ SomeBound (IsLeft rows row.terms) false (LeftOf rows row) →
+    CarriesEvidence rows row (by_bounds (LevelsOf rows row) u (tightest false None (LeftOf rows row)))
+bounds_carry rows row c a u t e (inl l) =
+    subst (λ (o : Option Derivation). CarriesEvidence rows row (by_bounds (LevelsOf rows row) u o)) (sym l.found)
+    (refutes rows row u.constant u.last c
+      (from_upper rows row.terms row.constant (LeftOf rows row) u (all_left rows row c) a t e
+        (none_such false (λ r. pos 0 ≤ℤ ((pos (unsigned_abs r.last) *ℤ u.constant) +ℤ (r.constant *ℤ u.last))) (LeftOf rows row) l.none)))
+bounds_carry rows row c a u t e (inr s) =
+    subst (λ (o : Option Derivation). CarriesEvidence rows row (by_bounds (LevelsOf rows row) u o)) (sym s.found) (cases (is_negative_sum (last_limit u) (last_limit s.bound)) refl)
+  where
+    cases : (b : Bool) → is_negative_sum (last_limit u) (last_limit s.bound) ≡ b → CarriesEvidence rows row (by_bounds (LevelsOf rows row) u (Some s.bound))
+    cases true f =
+        let m = bounds_prove rows row.terms u s.bound t.told.derived s.known.told.derived t.test s.known.test f in
+        subst (λ (x : Answer). CarriesEvidence rows row x) (sym (ap (λ (d : Bool). if d then proved_by_bounds u s.bound else refuted_from (LevelsOf rows row) (last_at u.constant u.last)) f))
+        (record { positive = m.0; named = m.1.named; shown = inr m.1.shown })
+    cases false f =
+        let above = lt_of (pos 0) u.last (both_true (has_no_terms u.terms) (int_lt (pos 0) u.last) t.test).1 in
+        let last = abs_above u.last above in
+        let room = ge_of ((u.constant *ℤ pos (unsigned_abs s.bound.last)) +ℤ (s.bound.constant *ℤ pos (unsigned_abs u.last))) (pos 0) f in
+        subst (λ (x : Answer). CarriesEvidence rows row x) (sym (ap (λ (d : Bool). if d then proved_by_bounds u s.bound else refuted_from (LevelsOf rows row) (last_at u.constant u.last)) f))
+        (refutes rows row u.constant u.last c
+          (from_upper rows row.terms row.constant (LeftOf rows row) u (all_left rows row c) a t e
+            (lower_room rows row.terms (LeftOf rows row) u.constant u.last (unsigned_abs u.last) s.bound last s.known room)))
