@@ -19,16 +19,17 @@ use Rattle.farkas.specs.declared.placing.Level.{Level}
 use Rattle.farkas.specs.Points.{Meets, MeetsEach, Breaks, valuation_of, IsPoint, IsDistinct, number_of}
 use Rattle.farkas.specs.Evidence.{IsProof, IsEmptyProof, IsRefutation, IsWitness}
 use Rattle.farkas.specs.Answers.{CarriesEvidence, CarriesEmptiness}
-use Rattle.farkas.specs.Derivations.{Derivation, given, given_from, at_most_last, at_least_last, left_at, HoldsAt}
+use Rattle.farkas.specs.Derivations.{Derivation, given, given_from, at_most_last, at_least_last, left_at, HoldsAt, size_of, combination, sum_terms, sum_last, sum_constant, sum_divisor}
 use Rattle.farkas.specs.Weights.{combined_support}
 use Rattle.farkas.specs.Steps.{has_no_terms, run}
 use Rattle.farkas.specs.Placing.{is_less, levels_of, raised}
 use Rattle.farkas.specs.Deciding.{is_absurd, first_absurd, bounds_last, last_limit, tighter, tightest, is_at_most, is_negative_sum, last_at, start_above, point_of, refuted_from, by_bounds, by_upper, by_absurd, decided, emptiness_by, start_of, variables_of, vars_of, answer_of_run, emptiness_of_run}
-use Rattle.linear_rows.proofs.Rounding.{mul_monotone}
+use Rattle.linear_rows.proofs.Rounding.{mul_monotone, floor_exact}
+use Rattle.farkas.proofs.Summing.{divisor_positive, divisor_divides_numbers}
 use Rattle.farkas.proofs.Soundness.{cancel, one-mul, at_most_times}
-use Rattle.farkas.proofs.Rings.{regroup}
+use Rattle.farkas.proofs.Rings.{regroup, cancel_same}
 use Rattle.farkas.proofs.Deriving.{IsDerived}
-use Rattle.farkas.proofs.Following.{Each, Each-front, start_derived, run_derived, given_all_derived}
+use Rattle.farkas.proofs.Following.{Each, Each-front, Each-run, start_derived, run_derived, given_all_derived}
 use Rattle.farkas.proofs.Proving.{both_true, lt_of, ge_of, abs_above, abs_below, size_above, size_below, absurd_proves, upper_proves, bounds_prove}
 use Rattle.farkas.proofs.Limiting.{Le, Le-trans, not_less, less}
 use Rattle.farkas.proofs.Reaching.{numbers_at}
@@ -420,3 +421,83 @@ bounds_carry rows row c a u t e (inr s) =
         (refutes rows row u.constant u.last c
           (from_upper rows row.terms row.constant (LeftOf rows row) u (all_left rows row c) a t e
             (lower_room rows row.terms (LeftOf rows row) u.constant u.last (unsigned_abs u.last) s.bound last s.known room)))
+
+upper_carries : (rows : List Inequality) (row : Inequality) → IsCollected row.terms → Each (λ r. IsCollected r.terms) (start_of rows row) → Each (λ r. is_absurd r ≡ false) (LeftOf rows row) →
+    NoBound true (LeftOf rows row) ⊎ SomeBound (IsLeft rows row.terms) true (LeftOf rows row) →
+    CarriesEvidence rows row (by_upper row.constant (LevelsOf rows row) (LeftOf rows row) (tightest true None (LeftOf rows row)))
+upper_carries rows row k c a (inl u) =
+    subst (λ (o : Option Derivation). CarriesEvidence rows row (by_upper row.constant (LevelsOf rows row) (LeftOf rows row) o)) (sym u.found)
+    (above_carries rows row c a u (bound_of (IsLeft rows row.terms) false (LeftOf rows row) (all_left rows row c)))
+upper_carries rows row k c a (inr s) =
+    subst (λ (o : Option Derivation). CarriesEvidence rows row (by_upper row.constant (LevelsOf rows row) (LeftOf rows row) o)) (sym s.found) (cases (is_at_most row.constant s.bound) refl)
+  where
+    cases : (b : Bool) → is_at_most row.constant s.bound ≡ b → CarriesEvidence rows row (by_upper row.constant (LevelsOf rows row) (LeftOf rows row) (Some s.bound))
+    cases true e =
+        subst (λ (x : Answer). CarriesEvidence rows row x)
+        (sym (ap (λ (d : Bool). if d then Proved s.bound.support.multipliers (s.bound.support.divisor * unsigned_abs s.bound.last) else by_bounds (LevelsOf rows row) s.bound (tightest false None (LeftOf rows row))) e))
+        (upper_proves rows row s.bound k s.known.told.derived s.known.test e)
+    cases false e =
+        subst (λ (x : Answer). CarriesEvidence rows row x)
+        (sym (ap (λ (d : Bool). if d then Proved s.bound.support.multipliers (s.bound.support.divisor * unsigned_abs s.bound.last) else by_bounds (LevelsOf rows row) s.bound (tightest false None (LeftOf rows row))) e))
+        (bounds_carry rows row c a s.bound s.known e (bound_of (IsLeft rows row.terms) false (LeftOf rows row) (all_left rows row c)))
+
+absurd_carries : (rows : List Inequality) (row : Inequality) → IsCollected row.terms → Each (λ r. IsCollected r.terms) (start_of rows row) →
+    (o : Option Derivation) → first_absurd (LeftOf rows row) ≡ o → CarriesEvidence rows row (by_absurd row.constant (LevelsOf rows row) (LeftOf rows row) o)
+absurd_carries rows row k c (Some r) e =
+    let m = found_absurd (IsLeft rows row.terms) (LeftOf rows row) r (all_left rows row c) e in
+    let p = absurd_proves rows row.terms r m.told.derived m.test in
+    record { positive = m.told.derived.positive; named = p.named; shown = inr p.shown }
+absurd_carries rows row k c None e =
+    upper_carries rows row k c (none_absurd (LeftOf rows row) e) (bound_of (IsLeft rows row.terms) true (LeftOf rows row) (all_left rows row c))
+
+-- the answer of the run carries its evidence
+pub run_carries : (rows : List Inequality) (row : Inequality) → IsCollected row.terms → Each (λ r. IsCollected r.terms) (start_of rows row) → CarriesEvidence rows row (answer_of_run rows row)
+run_carries rows row k c = absurd_carries rows row k c (first_absurd (LeftOf rows row)) refl
+
+-- ---- emptiness
+
+no_last : (y : Var) (p n : Derivation) → p.last ≡ pos 0 → n.last ≡ pos 0 → (combination y p n).last ≡ pos 0
+no_last y p n hp hn =
+    let a : ℕ = size_of y n in
+    let b : ℕ = size_of y p in
+    let g : ℕ = sum_divisor a p b n in
+    let above = divisor_positive (sum_terms a p b n) (sum_last a p b n) (sum_constant a p b n) in
+    let exact = floor_exact (sum_last a p b n) g above (divisor_divides_numbers (sum_terms a p b n) (sum_last a p b n) (sum_constant a p b n)).0 in
+    let first : pos a *ℤ p.last ≡ pos 0 = ap (λ (x : ℤ). pos a *ℤ x) hp ∙ *ℤ-zero (pos a) in
+    let second : pos b *ℤ n.last ≡ pos 0 = ap (λ (x : ℤ). pos b *ℤ x) hn ∙ *ℤ-zero (pos b) in
+    let zero_g = *ℤ-zero (pos g) in
+    cancel_same g (combination y p n).last (pos 0) above (omega (arith, ints))
+
+given_no_last : (place : ℕ) (rows : List Inequality) → Each (λ r. r.last ≡ pos 0) (given_from place rows)
+given_no_last place [] = tt
+given_no_last place (row ∷ rows) = (refl, given_no_last (place + 1) rows)
+
+no_bounds : (up : Bool) (Q : Derivation → Type 0) (rs : List Derivation) → Each (λ r. r.last ≡ pos 0) rs → Each (λ r. bounds_last up r ≡ true → Q r) rs
+no_bounds up Q [] h = tt
+no_bounds up Q (r ∷ rs) h = ((λ e. absurd (let s = last_sized up r e in let f : unsigned_abs r.last ≡ 0 = ap unsigned_abs h.0 in omega arith)), no_bounds up Q rs h.1)
+
+pub emptiness_carries : (rows : List Inequality) → Each (λ r. IsCollected r.terms) (given_from 0 rows) → CarriesEmptiness rows (emptiness_of_run rows)
+emptiness_carries rows c = cases (first_absurd (run (vars_of [] rows) (given_from 0 rows))) refl
+  where
+    cases : (o : Option Derivation) → first_absurd (run (vars_of [] rows) (given_from 0 rows)) ≡ o → CarriesEmptiness rows (emptiness_by (levels_of (vars_of [] rows) (given_from 0 rows)) o)
+    cases (Some r) e =
+        let m = found_absurd (IsDerived rows []) (run (vars_of [] rows) (given_from 0 rows)) r (run_derived (vars_of [] rows) rows [] (given_from 0 rows) (given_all_derived [] rows)) e in
+        absurd_proves rows [] r m.told m.test
+    cases None e =
+        let rs : List Derivation = run (vars_of [] rows) (given_from 0 rows) in
+        let derived = run_derived (vars_of [] rows) rows [] (given_from 0 rows) (given_all_derived [] rows) in
+        let bare_rows = run_bare (vars_of [] rows) (given_from 0 rows) (given_covered rows) c in
+        let lefts = mapped (λ r. IsDerived rows [] r × (r.terms ≡ [])) (IsLeft rows []) rs (λ r h. record { derived = h.0; bare = h.1 }) (both_each (IsDerived rows []) (λ r. r.terms ≡ []) rs derived bare_rows) in
+        let lasts = Each-run (λ r. r.last ≡ pos 0) (vars_of [] rows) (given_from 0 rows) no_last (given_no_last 0 rows) in
+        let hold = each_at rows [] (pos 0) (pos 1) rs (omega (arith, ints)) lefts (none_absurd rs e)
+          (no_bounds true (λ r. (pos (unsigned_abs r.last) *ℤ pos 0) ≤ℤ (r.constant *ℤ pos 1)) rs lasts)
+          (no_bounds false (λ r. pos 0 ≤ℤ ((pos (unsigned_abs r.last) *ℤ pos 0) +ℤ (r.constant *ℤ pos 1))) rs lasts) in
+        let m = raised_reaches (vars_of [] rows) (given_from 0 rows) (last_at (pos 0) (pos 1)) (vars_distinct rows) c (record { positive = omega (arith, ints); vars = refl; numbered = refl }) hold in
+        record {
+          point = record {
+            positive = m.stands.positive;
+            numbered = m.stands.numbered;
+            distinct = subst (λ (vs : List Var). IsDistinct vs) (sym m.stands.vars) (vars_distinct rows);
+          };
+          meets = given_meets (raised (levels_of (vars_of [] rows) (given_from 0 rows)) (last_at (pos 0) (pos 1))) rows 0 m.holds;
+        }

@@ -18,3 +18,5 @@ pub mod Meeting
 pub mod Standing
 pub mod Covering
 pub mod Concluding
+pub mod Collecting
+pub mod Having

@@ -36,7 +36,7 @@ use Rattle.farkas.proofs.Limiting.{Le, Least, NoLimit, SomeLimit, least}
 abbrev pub At : Placed → Derivation → Type 0
 At p r = HoldsAt (numbers_at p) p.last p.divisor r
 
-same_list : (ts us : List RowTerm) → are_same ts us ≡ true → ts ≡ us
+pub same_list : (ts us : List RowTerm) → are_same ts us ≡ true → ts ≡ us
 same_list [] [] e = refl
 same_list [] (u ∷ us) e = absurd (cc)
 same_list (t ∷ ts) [] e = absurd (cc)
@@ -63,7 +63,7 @@ le_of a b e = grind (arith, ints)
 pub gt_of : (a b : ℤ) → int_le a b ≡ false → b ≤ℤ a
 gt_of a b e = grind (arith, ints)
 
-either_true : (a b : Bool) → (a || b) ≡ true → (a ≡ true) ⊎ (b ≡ true)
+pub either_true : (a b : Bool) → (a || b) ≡ true → (a ≡ true) ⊎ (b ≡ true)
 either_true true b e = inl refl
 either_true false b e = inr e
 

@@ -41,7 +41,7 @@ combined_number rows [] = refl
 combined_number rows (m ∷ ms) =
     let f = one-mul (combined_constant rows ms) in let g = combined_number rows ms in omega (arith, ints)
 
-combined_is_collected : (rows : List Inequality) (ms : List Multiplier) → IsCollected (combined_terms rows ms)
+pub combined_is_collected : (rows : List Inequality) (ms : List Multiplier) → IsCollected (combined_terms rows ms)
 combined_is_collected rows [] = record { ascending = tt; nonzero = tt }
 combined_is_collected rows (m ∷ ms) =
     weighted_collected (pos m.factor) (row_at rows m.row).terms (pos 1) (combined_terms rows ms) (combined_is_collected rows ms).ascending
@@ -144,7 +144,7 @@ pub size_below : (z : ℤ) → z <ℤ pos 0 → 0 < unsigned_abs z
 size_below (pos n) h = absurd (omega (arith, ints))
 size_below (negsuc n) h = omega arith
 
-HasNoZero-scaled : (d : ℕ) (ts : List RowTerm) → 0 < d → HasNoZero ts → HasNoZero (scaled_terms (pos d) ts)
+pub HasNoZero-scaled : (d : ℕ) (ts : List RowTerm) → 0 < d → HasNoZero ts → HasNoZero (scaled_terms (pos d) ts)
 HasNoZero-scaled d [] p h = tt
 HasNoZero-scaled d (t ∷ ts) p h = (λ e. h.0 (cancel_same d t.factor (pos 0) p (e ∙ sym (*ℤ-zero (pos d)))), HasNoZero-scaled d ts p h.1)
 

@@ -1,5 +1,5 @@
 -- How a run decides whether rows entail a row, or are empty.
-use Rattle.std.specs.Prelude.{◌≡◌, ℕ, ◌+◌, ◌*◌, ◌<◌, ℤ, pos, neg_ℤ, ◌+ℤ◌, ◌-ℤ◌, ◌*ℤ◌, int_lt, int_le, unsigned_abs, List, [], ◌∷◌, ◌++◌, length, Bool, true, false, ◌&&◌, ◌||◌, not, Option, Some, None, if◌then◌else◌}
+use Rattle.std.specs.Prelude.{◌≡◌, ℕ, ◌+◌, ◌*◌, ◌<◌, ℤ, pos, neg_ℤ, ◌+ℤ◌, ◌-ℤ◌, ◌*ℤ◌, int_lt, int_le, unsigned_abs, List, [], ◌∷◌, ◌++◌, length, Bool, true, false, ◌&&◌, ◌||◌, not, Option, Some, None, option_map, if◌then◌else◌}
 use Rattle.std.specs.declared.cmp.Ordering.{Ordering}
 use Rattle.std.specs.Ordering.{match_ordering}
 use Rattle.linear_rows.specs.declared.rows.Var.{Var}
@@ -19,7 +19,7 @@ use Rattle.farkas.specs.declared.placing.Limit.{Limit}
 use Rattle.farkas.specs.declared.weights.Support.{Support}
 use Rattle.farkas.specs.Weights.{is_below, combined_support, supports_fit}
 use Rattle.farkas.specs.Derivations.{Derivation, given_from, at_most_last, at_least_last}
-use Rattle.farkas.specs.Steps.{has_no_terms, run, run_fits}
+use Rattle.farkas.specs.Steps.{are_same, has_no_terms, run, run_fits}
 use Rattle.farkas.specs.Placing.{is_less, levels_of, raised, raised_fits}
 use Rattle.farkas.specs.declared.placing.Level.{Level}
 
@@ -181,3 +181,40 @@ answer_of_run rows row =
 abbrev pub emptiness_of_run : List Inequality → Emptiness
 emptiness_of_run rows =
     emptiness_by (levels_of (vars_of [] rows) (given_from 0 rows)) (first_absurd (run (vars_of [] rows) (given_from 0 rows)))
+
+-- a row gives another by itself: it has its left side and a constant at most as large, or it holds nowhere
+abbrev pub gives : Inequality → Inequality → Bool
+gives other row =
+    (are_same other.terms row.terms && int_le other.constant row.constant) || (has_no_terms other.terms && int_lt other.constant (pos 0))
+
+abbrev pub giver_place : List Inequality → Inequality → Option ℕ
+giver_place [] row = None
+giver_place (r ∷ rs) row = if gives r row then Some 0 else option_map (λ k. k + 1) (giver_place rs row)
+
+abbrev pub alone : ℕ → List Multiplier
+alone place = record { row = place; factor = 1 } ∷ []
+
+-- the answer where the rows have the row
+abbrev pub had_answer : List Inequality → Inequality → Option Answer
+had_answer rows row =
+    if has_no_terms row.terms && int_le (pos 0) row.constant then Some (Proved [] 1)
+    else option_map (λ place. Proved (alone place) 1) (giver_place rows row)
+
+abbrev pub absurd_place : List Inequality → Option ℕ
+absurd_place [] = None
+absurd_place (r ∷ rs) = if has_no_terms r.terms && int_lt r.constant (pos 0) then Some 0 else option_map (λ k. k + 1) (absurd_place rs)
+
+-- the answer where one of the rows holds nowhere
+abbrev pub had_emptiness : List Inequality → Option Emptiness
+had_emptiness rows = option_map (λ place. emptiness.Empty (alone place)) (absurd_place rows)
+
+-- why the answer is that a limit is passed
+abbrev pub HasCause : List Inequality → Inequality → Answer → Type 0
+HasCause rows row (Proved multipliers divisor) = Unit {0}
+HasCause rows row (Refuted point) = Unit {0}
+HasCause rows row Beyond = entailment_fits rows row ≡ false
+
+abbrev pub HasEmptinessCause : List Inequality → Emptiness → Type 0
+HasEmptinessCause rows (emptiness.Empty multipliers) = Unit {0}
+HasEmptinessCause rows (emptiness.Inhabited point) = Unit {0}
+HasEmptinessCause rows emptiness.Beyond = emptiness_fits rows ≡ false

@@ -4,7 +4,7 @@ use Rattle.std.specs.Prelude.{◌≡◌, ℕ, suc, ◌*◌, ◌+◌, max, ℤ, p
 use Rattle.linear_rows.specs.declared.rows.Var.{Var}
 use Rattle.linear_rows.specs.declared.rows.RowTerm.{RowTerm}
 use Rattle.linear_rows.specs.Rows.{Inequality, Valuation, sum_at}
-use Rattle.linear_rows.specs.Terms.{scaled_terms, factor_of}
+use Rattle.linear_rows.specs.Terms.{IsCollected, scaled_terms, factor_of}
 use Rattle.linear_rows.specs.Forms.{weighted_terms, weighted_constant, terms_stay_small, constants_stay_small}
 use Rattle.linear_rows.specs.NormalForm.{gcd, common_divisor, divided, floor}
 use Rattle.farkas.specs.declared.weights.Support.{Support}
@@ -96,3 +96,8 @@ HoldsAt v z d r = left_at v z r ≤ℤ (r.constant *ℤ d)
 abbrev pub EachHoldsAt : Valuation → ℤ → ℤ → List Derivation → Type 0
 EachHoldsAt v z d [] = Unit {0}
 EachHoldsAt v z d (r ∷ rs) = HoldsAt v z d r × EachHoldsAt v z d rs
+
+-- like terms are collected in each
+abbrev pub EachCollected : List Derivation → Type 0
+EachCollected [] = Unit {0}
+EachCollected (r ∷ rs) = IsCollected r.terms × EachCollected rs

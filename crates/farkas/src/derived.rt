@@ -47,7 +47,8 @@ impl Derived {
 
     /// The row at a place of the given list.
     pub(crate) fn given(alloc: Global, place: u64, row: &Row) -> Result<Derived, AllocError>
-        ensures { IfOk result (λ d. d ≡ given place row.now) }
+        ensures is { IfOk result (λ d. d ≡ given place row.now) }
+        ensures collected { IfOk result (λ d. IsCollected d.terms) }
     {
         let mut multipliers = Items::new(alloc);
         multipliers.push(Multiplier {
@@ -67,7 +68,8 @@ impl Derived {
 
     /// The row that says that the terms of a row are at most the last variable.
     pub(crate) fn at_most_last(alloc: Global, row: &Row) -> Result<Derived, AllocError>
-        ensures { IfOk result (λ d. d ≡ at_most_last row.now.terms) }
+        ensures is { IfOk result (λ d. d ≡ at_most_last row.now.terms) }
+        ensures collected { IfOk result (λ d. IsCollected d.terms) }
     {
         Ok(Derived {
             terms: copy(alloc, row.terms())?,
@@ -79,7 +81,8 @@ impl Derived {
 
     /// The row that says that the last variable is at most the terms of a row.
     pub(crate) fn at_least_last(alloc: Global, row: &Row) -> Result<Derived, AllocError>
-        ensures { IfOk result (λ d. d ≡ at_least_last row.now.terms) }
+        ensures is { IfOk result (λ d. d ≡ at_least_last row.now.terms) }
+        ensures collected { IfOk result (λ d. IsCollected d.terms) }
     {
         Ok(Derived {
             terms: negate(alloc, row.terms())?,
@@ -298,7 +301,7 @@ fn are_negated(first: &[RowTerm], second: &[RowTerm]) -> bool
 }
 
 /// Whether the terms are those of the other list.
-fn are_same(first: &[RowTerm], second: &[RowTerm]) -> bool
+pub(crate) fn are_same(first: &[RowTerm], second: &[RowTerm]) -> bool
     ensures { result ≡ are_same first.now second.now }
 {
     let mut left = first;

@@ -8,3 +8,8 @@ pub invariant_of-result : goal.invariant_of-result
 invariant_of-result c =
     let terms : c.in_ok-negate.field-0 ≡ scaled_terms (negsuc 0) c.args.row.now.terms = search rules in
     subst (λ (ts : List RowTerm). IsCollected ts) (sym terms) (negated_collected c.args.row.now.terms c.terms.ensures.row.ascending c.terms.ensures.row.nonzero)
+
+pub returns-clause-collected : goal.returns-clause-collected
+returns-clause-collected c =
+    let terms : c.in_ok-negate.field-0 ≡ scaled_terms (negsuc 0) c.args.row.now.terms = search rules in
+    subst (λ (ts : List RowTerm). IsCollected ts) (sym terms) (negated_collected c.args.row.now.terms c.terms.ensures.row.ascending c.terms.ensures.row.nonzero)
