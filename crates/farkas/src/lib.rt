@@ -1,4 +1,13 @@
-//! Whether rows entail a row, with evidence.
+//! Whether linear inequalities entail another one over the rationals, with evidence for each answer.
+//!
+//! A proof is a list of multipliers, as Farkas' lemma promises: the multiplied rows add up to the row, or to
+//! `0 <= -1`. A refutation is a rational point that meets the rows and breaks the row. Both can be checked without
+//! knowing how they were found; they are found by Fourier and Motzkin's elimination.
+//!
+//! ```text
+//! let answer = entails(alloc, rows, &row)?;      // x - y <= 0 and y <= 5 entail x <= 5: both rows, once
+//! let nowhere = empty(alloc, rows)?;             // x <= 0 and -x <= -1 are empty: both rows, once
+//! ```
 #![tactic(auto)]
 
 mod answers;
@@ -9,6 +18,8 @@ mod laws;
 mod placing;
 mod runs;
 mod steps;
+#[cfg(test)]
+mod tests;
 mod weights;
 
 pub use answers::{Answer, Emptiness, Multiplier, RationalPoint};
