@@ -1,5 +1,5 @@
 -- One more multiplier in a list that ascends by row.
-use Rattle.std.proofs.Common.{◌≡◌, refl, sym, ap, ◌∙◌, subst, ℕ, zero, suc, ◌+◌, ◌*◌, ◌<◌, ◌≤◌, List, [], ◌∷◌, ◌++◌, length, take, drop, set, get_or, drop-cons, ◌⊎◌, inl, inr, Bool, true, false, Option, Some, None, arith}
+use Rattle.std.proofs.Common.{◌≡◌, refl, sym, ap, ◌∙◌, ℕ, suc, ◌+◌, ◌*◌, ◌<◌, ◌≤◌, List, [], ◌∷◌, ◌++◌, length, take, drop, set, get_or, drop-cons, ◌⊎◌, inl, inr, Bool, true, false, Option, Some, None, arith}
 use Rattle.std.specs.Prelude.{if◌then◌else◌, nat_lt, ◌==◌, ◌&&◌}
 use Rattle.std.proofs.lemmas.Bool.Decides.{nat_tests}
 use Rattle.farkas.specs.declared.answers.Multiplier.{Multiplier}
@@ -117,7 +117,7 @@ weigh_next a i xs out out' d f h e o =
     let first : drop i xs ≡ get_or xs i d ∷ drop (suc i) xs = drop-cons xs i d h in
     let next : i + 1 ≡ suc i = omega arith in
     let added : out' ≡ with_multiplier (record { row = (get_or xs i d).row; factor = a * (get_or xs i d).factor }) out =
-      o ∙ ap (λ (n : ℕ). with_multiplier (record { row = (get_or xs i d).row; factor = n }) out) e in
+    o ∙ ap (λ (n : ℕ). with_multiplier (record { row = (get_or xs i d).row; factor = n }) out) e in
     ap (λ (n : ℕ). summed_multipliers (scaled_multipliers a (drop n xs)) out') next
     ∙ ap (λ (ys : List Multiplier). summed_multipliers (scaled_multipliers a (drop (suc i) xs)) ys) added
     ∙ sym (ap (λ (ys : List Multiplier). summed_multipliers (scaled_multipliers a ys) out) first)
@@ -153,10 +153,10 @@ sums_next a i xs out out' d f h e o k =
     let first : drop i xs ≡ get_or xs i d ∷ drop (suc i) xs = drop-cons xs i d h in
     let next : suc i ≡ i + 1 = omega arith in
     let added : with_multiplier (record { row = (get_or xs i d).row; factor = a * (get_or xs i d).factor }) out ≡ out' =
-      sym (o ∙ ap (λ (n : ℕ). with_multiplier (record { row = (get_or xs i d).row; factor = n }) out) e) in
+    sym (o ∙ ap (λ (n : ℕ). with_multiplier (record { row = (get_or xs i d).row; factor = n }) out) e) in
     ap (λ (ys : List Multiplier). sums_fit (scaled_multipliers a ys) out) first
     ∙ and_false _ _ (ap (λ (ys : List Multiplier). sums_fit (scaled_multipliers a (drop (suc i) xs)) ys) added
-      ∙ ap (λ (n : ℕ). sums_fit (scaled_multipliers a (drop n xs)) out') next ∙ k)
+    ∙ ap (λ (n : ℕ). sums_fit (scaled_multipliers a (drop n xs)) out') next ∙ k)
 
 pub sums_end : (a i : ℕ) (xs out : List Multiplier) (d : Multiplier) (f : ℕ) → i < length xs → f ≡ a * (get_or xs i d).factor →
     sum_fits (record { row = (get_or xs i d).row; factor = f }) out ≡ false → sums_fit (scaled_multipliers a (drop i xs)) out ≡ false

@@ -1,13 +1,13 @@
 -- A point at which the combinations hold leaves room for the variable between its bounds.
-use Rattle.std.proofs.Common.{◌≡◌, ◌≢◌, refl, sym, ap, ◌∙◌, subst, ℕ, zero, suc, ◌+◌, ◌*◌, ◌<◌, ◌≤◌, ℤ, pos, negsuc, neg_ℤ, ◌+ℤ◌, ◌*ℤ◌, ◌≤ℤ◌, ◌<ℤ◌, List, [], ◌∷◌, ◌++◌, ◌⊎◌, inl, inr, ⊎_elim, Bool, true, false, Option, Some, None, arith}
-use Rattle.std.specs.Prelude.{if◌then◌else◌, ◌&&◌, ◌||◌, ◌==◌, ◌-ℤ◌, int_lt, int_le, unsigned_abs, option_map}
+use Rattle.std.proofs.Common.{◌≡◌, refl, sym, ap, ◌∙◌, subst, ℕ, zero, suc, ◌+◌, ◌<◌, ℤ, pos, negsuc, neg_ℤ, ◌+ℤ◌, ◌*ℤ◌, ◌≤ℤ◌, ◌<ℤ◌, List, [], ◌∷◌, ◌++◌, ◌⊎◌, inl, inr, ⊎_elim, Bool, true, false, Option, Some, None, arith}
+use Rattle.std.specs.Prelude.{if◌then◌else◌, ◌&&◌, ◌||◌, ◌==◌, ◌-ℤ◌, int_lt, unsigned_abs, option_map}
 use Rattle.std.proofs.lemmas.Int.{ints}
 use Rattle.std.proofs.lemmas.Bool.Decides.{nat_tests}
-use Rattle.std.proofs.Math.IntN.{zero-*ℤ, *ℤ-zero, *ℤ_comm}
+use Rattle.std.proofs.Math.IntN.{*ℤ-zero}
 use Rattle.linear_rows.specs.declared.rows.Var.{Var}
 use Rattle.linear_rows.specs.declared.rows.RowTerm.{RowTerm}
 use Rattle.linear_rows.specs.Variables.{var_cmp}
-use Rattle.std.specs.Ordering.{is_eq, int_eq}
+use Rattle.std.specs.Ordering.{is_eq}
 use Rattle.std.specs.declared.cmp.Ordering.{Ordering}
 use Rattle.std.specs.declared.cmp.Ordering.TheVariants.{Less, Equal, Greater}
 use Rattle.linear_rows.specs.Rows.{Valuation, sum_at}
@@ -17,14 +17,13 @@ use Rattle.linear_rows.proofs.TermLists.{is_zero_of}
 use Rattle.linear_rows.proofs.Integers.{mul-add, add-mul, mul_assoc, mul-neg, neg-mul}
 use Rattle.linear_rows.proofs.Rounding.{mul_monotone}
 use Rattle.farkas.specs.declared.steps.Equality.{Equality}
-use Rattle.farkas.specs.Derivations.{Derivation, left_at, HoldsAt, size_of, combination, sum_divisor, sum_terms, sum_last, sum_constant, weighted_sum}
-use Rattle.farkas.specs.Steps.{Match, mentions, has_positive, has_negative, are_negated, is_negation, negation_place, found_at, equality_from, equality_of, is_side, is_made, matches_of, matches_from, matches, combined}
+use Rattle.farkas.specs.Derivations.{Derivation, left_at, HoldsAt, size_of, sum_divisor, weighted_sum}
+use Rattle.farkas.specs.Steps.{Match, has_positive, has_negative, are_negated, is_negation, negation_place, found_at, equality_from, equality_of, is_side, is_made, matches_of, matches_from, matches}
 use Rattle.farkas.proofs.Soundness.{cancel}
 use Rattle.farkas.proofs.Rings.{regroup}
-use Rattle.farkas.proofs.Summing.{divisor_positive}
 use Rattle.farkas.proofs.Deriving.{sum_left, sum_number}
-use Rattle.farkas.proofs.Proving.{both_true, lt_of, ge_of, abs_above, abs_below, size_above, size_below}
-use Rattle.farkas.proofs.Following.{Each, EachMatch}
+use Rattle.farkas.proofs.Proving.{both_true, lt_of, size_above}
+use Rattle.farkas.proofs.Following.{EachMatch}
 
 -- what is left of the constant, times the divisor of the point
 abbrev pub room : Valuation → ℤ → ℤ → Derivation → ℤ
@@ -42,7 +41,7 @@ sum_agrees v z d a b p n h =
     let times = mul_monotone g (left_at v z w) (w.constant *ℤ d) h in
     let left = sum_left v z a b p n in
     let right : pos g *ℤ (w.constant *ℤ d) ≡ ((pos a *ℤ p.constant) +ℤ (pos b *ℤ n.constant)) *ℤ d =
-      sym (mul_assoc (pos g) w.constant d) ∙ ap (λ (x : ℤ). x *ℤ d) (sum_number a b p n) in
+    sym (mul_assoc (pos g) w.constant d) ∙ ap (λ (x : ℤ). x *ℤ d) (sum_number a b p n) in
     let split = add-mul (pos a *ℤ p.constant) (pos b *ℤ n.constant) d in
     let first = mul_assoc (pos a) p.constant d in
     let second = mul_assoc (pos b) n.constant d in
@@ -76,7 +75,7 @@ made_at : (Q : Derivation → Derivation → Type 0) (y : Var) (e : Option Equal
 made_at Q y e i p j [] k n h at neg made = absurd at
 made_at Q y e i p j (m ∷ ns) zero n h at neg made =
     let test : (has_negative y m && is_made e i j) ≡ true =
-      both_hold (has_negative y m) (is_made e i j) (ap (has_negative y) at ∙ neg) (ap (is_made e i) (omega arith) ∙ made) in
+    both_hold (has_negative y m) (is_made e i j) (ap (has_negative y) at ∙ neg) (ap (is_made e i) (omega arith) ∙ made) in
     subst (λ (x : Derivation). Q p x) at (head_match Q (has_negative y m && is_made e i j) (record { positive = p; negative = m }) (matches_of y e i p (j + 1) ns) test h)
   where
     both_hold : (a b : Bool) → a ≡ true → b ≡ true → (a && b) ≡ true
@@ -116,7 +115,7 @@ negated_sum v (t ∷ ts) (u ∷ us) e =
     let var = same_var t.var u.var (equal_of (var_cmp t.var u.var) more.0) in
     let rest = negated_sum v ts us parts.1 in
     let first : t.factor *ℤ v t.var ≡ neg_ℤ (u.factor *ℤ v u.var) =
-      ap (λ (z : ℤ). z *ℤ v t.var) (opposite_of t.factor u.factor more.1) ∙ neg-mul u.factor (v t.var) ∙ ap (λ (x : Var). neg_ℤ (u.factor *ℤ v x)) var in
+    ap (λ (z : ℤ). z *ℤ v t.var) (opposite_of t.factor u.factor more.1) ∙ neg-mul u.factor (v t.var) ∙ ap (λ (x : Var). neg_ℤ (u.factor *ℤ v x)) var in
     omega (arith, ints)
 
 choose_number : (b : Bool) (x y z w : ℤ) → x ≡ neg_ℤ y → z ≡ neg_ℤ w → (if b then x else z) ≡ neg_ℤ (if b then y else w)
@@ -170,7 +169,7 @@ bridge a b k s t x h e f =
     let r1 = regroup b k k b s (omega arith) in
     let r2 = regroup a k k a t (omega arith) in
     let r3 : pos b *ℤ (pos a *ℤ neg_ℤ x) ≡ neg_ℤ (pos a *ℤ (pos b *ℤ x)) =
-      regroup b a a b (neg_ℤ x) (omega arith) ∙ ap (λ (w : ℤ). pos a *ℤ w) (mul-neg (pos b) x) ∙ mul-neg (pos a) (pos b *ℤ x) in
+    regroup b a a b (neg_ℤ x) (omega arith) ∙ ap (λ (w : ℤ). pos a *ℤ w) (mul-neg (pos b) x) ∙ mul-neg (pos a) (pos b *ℤ x) in
     cancel k (pos 0) ((pos b *ℤ s) +ℤ (pos a *ℤ t)) h (omega (arith, ints))
 
 -- the first inequality of a list with its negation
@@ -282,14 +281,15 @@ pairs_agree y v z d all i j p n mention h at_p pos_p at_n neg_n = cases (equalit
         let size_is : size_of y s.other ≡ size_of y s.one = ap unsigned_abs factor ∙ abs_negated (factor_of y s.one.terms) in
         ⊎_elim
         (λ positive.
-          through y v z d all e i j e.first e.second p n s.one s.other g at_p pos_p at_n neg_n s.first positive s.second
-          (lt_true (factor_of y s.other.terms) (pos 0) (let k = lt_of (pos 0) (factor_of y s.one.terms) positive in omega (arith, ints)))
-          (side_first e) (side_second e) room_is size_is)
+        through y v z d all e i j e.first e.second p n s.one s.other g at_p pos_p at_n neg_n s.first positive s.second
+        (lt_true (factor_of y s.other.terms) (pos 0) (let k = lt_of (pos 0) (factor_of y s.one.terms) positive in omega (arith, ints)))
+        (side_first e) (side_second e) room_is size_is)
         (λ negative.
-          through y v z d all e i j e.second e.first p n s.other s.one g at_p pos_p at_n neg_n s.second
-          (lt_true (pos 0) (factor_of y s.other.terms) (let k = lt_of (factor_of y s.one.terms) (pos 0) negative in omega (arith, ints)))
-          s.first negative (side_second e) (side_first e) (omega (arith, ints)) (sym size_is))
+        through y v z d all e i j e.second e.first p n s.other s.one g at_p pos_p at_n neg_n s.second
+        (lt_true (pos 0) (factor_of y s.other.terms) (let k = lt_of (factor_of y s.one.terms) (pos 0) negative in omega (arith, ints)))
+        s.first negative (side_second e) (side_first e) (omega (arith, ints)) (sym size_is))
         (signed (factor_of y s.one.terms) (mention e.first s.one s.first))
+
     cases : (o : Option Equality) → equality_of all ≡ o → AgreeAt y v z d p n
     cases None g =
         matched_at (AgreeAt y v z d) y None all 0 all i p j n (subst (λ (o : Option Equality). EachMatch (AgreeAt y v z d) (matches_from y o all 0 all)) g h) at_p pos_p at_n neg_n refl

@@ -1,5 +1,5 @@
 -- The given rows, one after another.
-use Rattle.std.proofs.Common.{◌≡◌, refl, sym, ap, ◌∙◌, subst, ℕ, suc, ◌+◌, ◌<◌, List, [], ◌∷◌, ◌++◌, length, drop, get_or, drop-cons, append_assoc, arith}
+use Rattle.std.proofs.Common.{◌≡◌, sym, ap, ◌∙◌, ℕ, suc, ◌+◌, ◌<◌, List, [], ◌∷◌, ◌++◌, length, drop, get_or, drop-cons, append_assoc, arith}
 use Rattle.linear_rows.specs.Rows.{Inequality}
 use Rattle.linear_rows.specs.Terms.{IsCollected}
 use Rattle.farkas.specs.Derivations.{Derivation, given, given_from, EachCollected}

@@ -1,29 +1,26 @@
 -- The answer of a run carries its evidence.
-use Rattle.std.proofs.Common.{◌≡◌, ◌≢◌, refl, sym, ap, ◌∙◌, subst, ℕ, zero, suc, ◌+◌, ◌*◌, ◌<◌, ◌≤◌, ℤ, pos, negsuc, neg_ℤ, ◌+ℤ◌, ◌*ℤ◌, ◌≤ℤ◌, ◌<ℤ◌, List, [], ◌∷◌, ◌++◌, length, ◌⊎◌, inl, inr, ⊎_elim, Bool, true, false, Option, Some, None, arith}
+use Rattle.std.proofs.Common.{◌≡◌, refl, sym, ap, ◌∙◌, subst, ℕ, zero, suc, ◌+◌, ◌*◌, ◌<◌, ℤ, pos, negsuc, neg_ℤ, ◌+ℤ◌, ◌*ℤ◌, ◌≤ℤ◌, ◌<ℤ◌, List, [], ◌∷◌, ◌⊎◌, inl, inr, Bool, true, false, Option, Some, None, arith}
 use Rattle.std.specs.Prelude.{if◌then◌else◌, ◌&&◌, ◌-ℤ◌, int_lt, unsigned_abs}
 use Rattle.std.proofs.lemmas.Int.{ints}
 use Rattle.std.proofs.Math.IntN.{zero-*ℤ, *ℤ-zero, *ℤ_comm}
 use Rattle.linear_rows.specs.declared.rows.Var.{Var}
 use Rattle.linear_rows.specs.declared.rows.RowTerm.{RowTerm}
-use Rattle.linear_rows.specs.Rows.{Inequality, Valuation, sum_at}
-use Rattle.linear_rows.specs.Terms.{IsCollected, is_zero, scaled_terms}
-use Rattle.linear_rows.proofs.TermLists.{is_zero_of, zero_or_not}
+use Rattle.linear_rows.specs.Rows.{Inequality, sum_at}
+use Rattle.linear_rows.specs.Terms.{IsCollected, is_zero}
 use Rattle.linear_rows.proofs.Values.{sum_at-scaled}
 use Rattle.linear_rows.proofs.Integers.{neg-mul, mul-neg, mul-add, add-mul}
-use Rattle.farkas.specs.declared.answers.RationalPoint.{RationalPoint}
 use Rattle.farkas.specs.declared.answers.Answer.{Answer}
 use Rattle.farkas.specs.declared.answers.Answer.TheVariants.{Proved}
 use Rattle.farkas.specs.declared.placing.Placed.{Placed}
-use Rattle.farkas.specs.declared.placing.Limit.{Limit}
 use Rattle.farkas.specs.declared.placing.Level.{Level}
-use Rattle.farkas.specs.Points.{Meets, MeetsEach, Breaks, valuation_of, IsPoint, IsDistinct, number_of}
-use Rattle.farkas.specs.Evidence.{IsProof, IsEmptyProof, IsRefutation, IsWitness}
+use Rattle.farkas.specs.Points.{MeetsEach, IsDistinct}
+use Rattle.farkas.specs.Evidence.{IsRefutation}
 use Rattle.farkas.specs.Answers.{CarriesEvidence, CarriesEmptiness}
-use Rattle.farkas.specs.Derivations.{Derivation, given, given_from, at_most_last, at_least_last, left_at, HoldsAt, size_of, combination, sum_terms, sum_last, sum_constant, sum_divisor}
+use Rattle.farkas.specs.Derivations.{Derivation, given_from, at_most_last, at_least_last, size_of, combination, sum_terms, sum_last, sum_constant, sum_divisor}
 use Rattle.farkas.specs.Weights.{combined_support}
 use Rattle.farkas.specs.Steps.{has_no_terms, run}
 use Rattle.farkas.specs.Placing.{is_less, levels_of, raised}
-use Rattle.farkas.specs.Deciding.{is_absurd, first_absurd, bounds_last, last_limit, tighter, tightest, is_at_most, is_negative_sum, last_at, start_above, point_of, refuted_from, by_bounds, by_upper, by_absurd, decided, emptiness_by, start_of, variables_of, vars_of, answer_of_run, emptiness_of_run}
+use Rattle.farkas.specs.Deciding.{is_absurd, first_absurd, bounds_last, last_limit, tighter, tightest, is_at_most, is_negative_sum, last_at, start_above, point_of, refuted_from, by_bounds, by_upper, by_absurd, emptiness_by, start_of, variables_of, vars_of, answer_of_run, emptiness_of_run}
 use Rattle.linear_rows.proofs.Rounding.{mul_monotone, floor_exact}
 use Rattle.farkas.proofs.Summing.{divisor_positive, divisor_divides_numbers}
 use Rattle.farkas.proofs.Soundness.{cancel, one-mul, at_most_times}
@@ -34,7 +31,7 @@ use Rattle.farkas.proofs.Proving.{both_true, lt_of, ge_of, abs_above, abs_below,
 use Rattle.farkas.proofs.Limiting.{Le, Le-trans, not_less, less}
 use Rattle.farkas.proofs.Reaching.{numbers_at}
 use Rattle.farkas.proofs.Meeting.{At, both_each, mapped}
-use Rattle.farkas.proofs.Standing.{Stands, IsAbove, Reached, raised_reaches}
+use Rattle.farkas.proofs.Standing.{raised_reaches}
 use Rattle.farkas.proofs.Covering.{run_bare, given_covered, start_covered, variables_distinct, vars_distinct}
 
 -- ---- the rows that decide
@@ -56,7 +53,7 @@ none_absurd [] e = tt
 none_absurd (s ∷ ss) e = here (is_absurd s) refl e (none_absurd ss)
   where
     here : (b : Bool) → is_absurd s ≡ b → ◌≡◌ {A = Option Derivation} (if b then Some s else first_absurd ss) None → (first_absurd ss ≡ None → Each (λ r. is_absurd r ≡ false) ss) →
-      (is_absurd s ≡ false) × Each (λ r. is_absurd r ≡ false) ss
+        (is_absurd s ≡ false) × Each (λ r. is_absurd r ≡ false) ss
     here true f g rec = absurd (cc)
     here false f g rec = (f, rec g)
 
@@ -92,7 +89,7 @@ tight_step P up r rs b h t k rec true e true f =
     record {
       bound = m.bound;
       found = ap (λ (d : Bool). if d then tightest up (tighter (Some b) r) rs else tightest up (Some b) rs) e
-        ∙ ap (λ (d : Bool). tightest up (if d then Some r else Some b) rs) f ∙ m.found;
+          ∙ ap (λ (d : Bool). tightest up (if d then Some r else Some b) rs) f ∙ m.found;
       below = Le-trans (last_limit m.bound) (last_limit r) (last_limit b) (last_sized up r e) m.below (less (last_limit r) (last_limit b) f);
       known = record { test = m.known.test; told = m.known.told; least = ((λ g. m.below), m.known.least) };
     }
@@ -101,7 +98,7 @@ tight_step P up r rs b h t k rec true e false f =
     record {
       bound = m.bound;
       found = ap (λ (d : Bool). if d then tightest up (tighter (Some b) r) rs else tightest up (Some b) rs) e
-        ∙ ap (λ (d : Bool). tightest up (if d then Some r else Some b) rs) f ∙ m.found;
+          ∙ ap (λ (d : Bool). tightest up (if d then Some r else Some b) rs) f ∙ m.found;
       below = m.below;
       known = record { test = m.known.test; told = m.known.told; least = ((λ g. Le-trans (last_limit m.bound) (last_limit b) (last_limit r) (last_sized up b h) m.below (not_less (last_limit r) (last_limit b) f)), m.known.least) };
     }
@@ -170,6 +167,7 @@ by_sign r z d bare above plain up down = cases r.last refl
   where
     terms : has_no_terms r.terms ≡ true
     terms = no_terms_test r.terms bare
+
     cases : (l : ℤ) → r.last ≡ l → At (last_at z d) r
     cases (pos zero) e =
         let zero_last : is_zero r.last ≡ true = ap is_zero e in
@@ -236,7 +234,7 @@ from_upper rows tested k left u l a t e lower =
       above = above;
       past = omega (arith, ints);
       holds = each_at rows tested u.constant u.last left above l a
-        (mapped (λ s. bounds_last true s ≡ true → Le (last_limit u) (last_limit s)) (λ s. bounds_last true s ≡ true → (pos (unsigned_abs s.last) *ℤ u.constant) ≤ℤ (s.constant *ℤ u.last)) left
+          (mapped (λ s. bounds_last true s ≡ true → Le (last_limit u) (last_limit s)) (λ s. bounds_last true s ≡ true → (pos (unsigned_abs s.last) *ℤ u.constant) ≤ℤ (s.constant *ℤ u.last)) left
           (λ s h b. let f = h b in let g = *ℤ_comm u.constant (pos (unsigned_abs s.last)) in let m : s.constant *ℤ u.last ≡ s.constant *ℤ pos (unsigned_abs u.last) = ap (λ (x : ℤ). s.constant *ℤ x) last in omega (arith, ints))
           t.least) lower;
     }
@@ -251,8 +249,8 @@ lower_room : (rows : List Inequality) (tested : List RowTerm) (left : List Deriv
 lower_room rows tested left x d a l same t h =
     mapped (λ s. bounds_last false s ≡ true → Le (last_limit l) (last_limit s)) (λ s. bounds_last false s ≡ true → pos 0 ≤ℤ ((pos (unsigned_abs s.last) *ℤ x) +ℤ (s.constant *ℤ d))) left
     (λ s k b.
-      let f = chain x l.constant s.constant a (unsigned_abs l.last) (unsigned_abs s.last) (last_sized false l t.test) h (k b) in
-      let g : s.constant *ℤ d ≡ s.constant *ℤ pos a = ap (λ (y : ℤ). s.constant *ℤ y) same in omega (arith, ints)) t.least
+    let f = chain x l.constant s.constant a (unsigned_abs l.last) (unsigned_abs s.last) (last_sized false l t.test) h (k b) in
+    let g : s.constant *ℤ d ≡ s.constant *ℤ pos a = ap (λ (y : ℤ). s.constant *ℤ y) same in omega (arith, ints)) t.least
 
 -- ---- the answer
 
@@ -293,7 +291,7 @@ all_left rows row collected =
     let left : List Derivation = run (variables_of rows row) (start_of rows row) in
     mapped (λ r. IsDerived rows row.terms r × (r.terms ≡ [])) (IsLeft rows row.terms) left (λ r h. record { derived = h.0; bare = h.1 })
     (both_each (IsDerived rows row.terms) (λ r. r.terms ≡ []) left (run_derived (variables_of rows row) rows row.terms (start_of rows row) (start_derived rows row))
-      (run_bare (variables_of rows row) (start_of rows row) (start_covered rows row) collected))
+    (run_bare (variables_of rows row) (start_of rows row) (start_covered rows row) collected))
 
 one_past : (k : ℤ) → (k *ℤ pos 1) <ℤ (k +ℤ pos 1)
 one_past k = let e = *ℤ_comm k (pos 1) in let f = one-mul k in omega (arith, ints)
@@ -316,8 +314,8 @@ without_bounds rows row c a u l =
       above = omega (arith, ints);
       past = one_past row.constant;
       holds = each_at rows row.terms z (pos 1) left (omega (arith, ints)) (all_left rows row c) a
-        (none_such true (λ r. (pos (unsigned_abs r.last) *ℤ z) ≤ℤ (r.constant *ℤ pos 1)) left u.none)
-        (none_such false (λ r. pos 0 ≤ℤ ((pos (unsigned_abs r.last) *ℤ z) +ℤ (r.constant *ℤ pos 1))) left l.none);
+          (none_such true (λ r. (pos (unsigned_abs r.last) *ℤ z) ≤ℤ (r.constant *ℤ pos 1)) left u.none)
+          (none_such false (λ r. pos 0 ≤ℤ ((pos (unsigned_abs r.last) *ℤ z) +ℤ (r.constant *ℤ pos 1))) left l.none);
     }
 
 -- the greatest lower bound is at most one more than the tested constant
@@ -332,8 +330,8 @@ bound_low rows row c a u l t e =
       above = omega (arith, ints);
       past = one_past row.constant;
       holds = each_at rows row.terms z (pos 1) left (omega (arith, ints)) (all_left rows row c) a
-        (none_such true (λ r. (pos (unsigned_abs r.last) *ℤ z) ≤ℤ (r.constant *ℤ pos 1)) left u.none)
-        (lower_room rows row.terms left z (pos 1) 1 l refl t (omega (arith, ints)));
+          (none_such true (λ r. (pos (unsigned_abs r.last) *ℤ z) ≤ℤ (r.constant *ℤ pos 1)) left u.none)
+          (lower_room rows row.terms left z (pos 1) 1 l refl t (omega (arith, ints)));
     }
 
 minus_last : (x : ℤ) (n : ℕ) → x ≡ neg_ℤ (pos n) → pos 0 -ℤ x ≡ pos n
@@ -358,15 +356,15 @@ bound_high rows row c a u l t e =
       above = omega (arith, ints);
       past = omega (arith, ints);
       holds = each_at rows row.terms (pos 0 -ℤ l.constant) (pos 0 -ℤ l.last) left (omega (arith, ints)) (all_left rows row c) a
-        (none_such true (λ r. (pos (unsigned_abs r.last) *ℤ (pos 0 -ℤ l.constant)) ≤ℤ (r.constant *ℤ (pos 0 -ℤ l.last))) left u.none)
-        (mapped (λ s. bounds_last false s ≡ true → Le (last_limit l) (last_limit s)) (λ s. bounds_last false s ≡ true → pos 0 ≤ℤ ((pos (unsigned_abs s.last) *ℤ (pos 0 -ℤ l.constant)) +ℤ (s.constant *ℤ (pos 0 -ℤ l.last)))) left
+          (none_such true (λ r. (pos (unsigned_abs r.last) *ℤ (pos 0 -ℤ l.constant)) ≤ℤ (r.constant *ℤ (pos 0 -ℤ l.last))) left u.none)
+          (mapped (λ s. bounds_last false s ≡ true → Le (last_limit l) (last_limit s)) (λ s. bounds_last false s ≡ true → pos 0 ≤ℤ ((pos (unsigned_abs s.last) *ℤ (pos 0 -ℤ l.constant)) +ℤ (s.constant *ℤ (pos 0 -ℤ l.last)))) left
           (λ s f b.
-            let g = f b in
-            let m : ℕ = unsigned_abs s.last in
-            let p : s.constant *ℤ (pos 0 -ℤ l.last) ≡ s.constant *ℤ pos n = ap (λ (x : ℤ). s.constant *ℤ x) last in
-            let q : pos 0 -ℤ l.constant ≡ neg_ℤ l.constant = omega (arith, ints) in
-            let r : pos m *ℤ (pos 0 -ℤ l.constant) ≡ pos m *ℤ neg_ℤ l.constant = ap (λ (x : ℤ). pos m *ℤ x) q in
-            let w = mul-neg (pos m) l.constant in let y = *ℤ_comm l.constant (pos m) in omega (arith, ints)) t.least);
+          let g = f b in
+          let m : ℕ = unsigned_abs s.last in
+          let p : s.constant *ℤ (pos 0 -ℤ l.last) ≡ s.constant *ℤ pos n = ap (λ (x : ℤ). s.constant *ℤ x) last in
+          let q : pos 0 -ℤ l.constant ≡ neg_ℤ l.constant = omega (arith, ints) in
+          let r : pos m *ℤ (pos 0 -ℤ l.constant) ≡ pos m *ℤ neg_ℤ l.constant = ap (λ (x : ℤ). pos m *ℤ x) q in
+          let w = mul-neg (pos m) l.constant in let y = *ℤ_comm l.constant (pos m) in omega (arith, ints)) t.least);
     }
 
 above_carries : (rows : List Inequality) (row : Inequality) → Each (λ r. IsCollected r.terms) (start_of rows row) → Each (λ r. is_absurd r ≡ false) (LeftOf rows row) →
@@ -403,8 +401,8 @@ bounds_carry : (rows : List Inequality) (row : Inequality) → Each (λ r. IsCol
 bounds_carry rows row c a u t e (inl l) =
     subst (λ (o : Option Derivation). CarriesEvidence rows row (by_bounds (LevelsOf rows row) u o)) (sym l.found)
     (refutes rows row u.constant u.last c
-      (from_upper rows row.terms row.constant (LeftOf rows row) u (all_left rows row c) a t e
-        (none_such false (λ r. pos 0 ≤ℤ ((pos (unsigned_abs r.last) *ℤ u.constant) +ℤ (r.constant *ℤ u.last))) (LeftOf rows row) l.none)))
+    (from_upper rows row.terms row.constant (LeftOf rows row) u (all_left rows row c) a t e
+    (none_such false (λ r. pos 0 ≤ℤ ((pos (unsigned_abs r.last) *ℤ u.constant) +ℤ (r.constant *ℤ u.last))) (LeftOf rows row) l.none)))
 bounds_carry rows row c a u t e (inr s) =
     subst (λ (o : Option Derivation). CarriesEvidence rows row (by_bounds (LevelsOf rows row) u o)) (sym s.found) (cases (is_negative_sum (last_limit u) (last_limit s.bound)) refl)
   where
@@ -419,8 +417,8 @@ bounds_carry rows row c a u t e (inr s) =
         let room = ge_of ((u.constant *ℤ pos (unsigned_abs s.bound.last)) +ℤ (s.bound.constant *ℤ pos (unsigned_abs u.last))) (pos 0) f in
         subst (λ (x : Answer). CarriesEvidence rows row x) (sym (ap (λ (d : Bool). if d then proved_by_bounds u s.bound else refuted_from (LevelsOf rows row) (last_at u.constant u.last)) f))
         (refutes rows row u.constant u.last c
-          (from_upper rows row.terms row.constant (LeftOf rows row) u (all_left rows row c) a t e
-            (lower_room rows row.terms (LeftOf rows row) u.constant u.last (unsigned_abs u.last) s.bound last s.known room)))
+        (from_upper rows row.terms row.constant (LeftOf rows row) u (all_left rows row c) a t e
+        (lower_room rows row.terms (LeftOf rows row) u.constant u.last (unsigned_abs u.last) s.bound last s.known room)))
 
 upper_carries : (rows : List Inequality) (row : Inequality) → IsCollected row.terms → Each (λ r. IsCollected r.terms) (start_of rows row) → Each (λ r. is_absurd r ≡ false) (LeftOf rows row) →
     NoBound true (LeftOf rows row) ⊎ SomeBound (IsLeft rows row.terms) true (LeftOf rows row) →
@@ -490,8 +488,8 @@ emptiness_carries rows c = cases (first_absurd (run (vars_of [] rows) (given_fro
         let lefts = mapped (λ r. IsDerived rows [] r × (r.terms ≡ [])) (IsLeft rows []) rs (λ r h. record { derived = h.0; bare = h.1 }) (both_each (IsDerived rows []) (λ r. r.terms ≡ []) rs derived bare_rows) in
         let lasts = Each-run (λ r. r.last ≡ pos 0) (vars_of [] rows) (given_from 0 rows) no_last (given_no_last 0 rows) in
         let hold = each_at rows [] (pos 0) (pos 1) rs (omega (arith, ints)) lefts (none_absurd rs e)
-          (no_bounds true (λ r. (pos (unsigned_abs r.last) *ℤ pos 0) ≤ℤ (r.constant *ℤ pos 1)) rs lasts)
-          (no_bounds false (λ r. pos 0 ≤ℤ ((pos (unsigned_abs r.last) *ℤ pos 0) +ℤ (r.constant *ℤ pos 1))) rs lasts) in
+        (no_bounds true (λ r. (pos (unsigned_abs r.last) *ℤ pos 0) ≤ℤ (r.constant *ℤ pos 1)) rs lasts)
+        (no_bounds false (λ r. pos 0 ≤ℤ ((pos (unsigned_abs r.last) *ℤ pos 0) +ℤ (r.constant *ℤ pos 1))) rs lasts) in
         let m = raised_reaches (vars_of [] rows) (given_from 0 rows) (last_at (pos 0) (pos 1)) (vars_distinct rows) c (record { positive = omega (arith, ints); vars = refl; numbered = refl }) hold in
         record {
           point = record {

@@ -1,8 +1,8 @@
 -- The variables of a run: all are eliminated, each once.
-use Rattle.std.proofs.Common.{◌≡◌, ◌≢◌, refl, sym, ap, ◌∙◌, subst, ℕ, zero, suc, ◌+◌, ◌<◌, ◌≤◌, ℤ, pos, negsuc, neg_ℤ, ◌+ℤ◌, ◌*ℤ◌, List, [], ◌∷◌, ◌++◌, Bool, true, false, Option, arith}
-use Rattle.std.specs.Prelude.{if◌then◌else◌, ◌&&◌, int_lt, unsigned_abs}
+use Rattle.std.proofs.Common.{◌≡◌, ◌≢◌, refl, sym, ap, ◌∙◌, subst, ℕ, ◌+◌, ◌<◌, ℤ, pos, negsuc, neg_ℤ, ◌+ℤ◌, ◌*ℤ◌, List, [], ◌∷◌, Bool, true, false, Option, arith}
+use Rattle.std.specs.Prelude.{if◌then◌else◌, ◌&&◌}
 use Rattle.std.proofs.lemmas.Int.{ints}
-use Rattle.std.proofs.Math.IntN.{zero-*ℤ, *ℤ-zero, *ℤ_comm}
+use Rattle.std.proofs.Math.IntN.{*ℤ-zero, *ℤ_comm}
 use Rattle.std.specs.declared.cmp.Ordering.{Ordering}
 use Rattle.std.specs.declared.cmp.Ordering.TheVariants.{Less, Equal, Greater}
 use Rattle.std.specs.Ordering.{is_eq, match_ordering}
@@ -10,23 +10,23 @@ use Rattle.linear_rows.specs.declared.rows.Var.{Var}
 use Rattle.linear_rows.specs.declared.rows.RowTerm.{RowTerm}
 use Rattle.linear_rows.specs.Variables.{var_cmp}
 use Rattle.linear_rows.specs.Rows.{Inequality, Valuation, sum_at}
-use Rattle.linear_rows.specs.Terms.{Follows, IsAscending, IsCollected, factor_of, scaled_terms}
+use Rattle.linear_rows.specs.Terms.{Follows, IsAscending, IsCollected, factor_of}
 use Rattle.linear_rows.proofs.VariableOrder.{same_var, equal_itself, greater_less, less_trans}
-use Rattle.linear_rows.proofs.TermLists.{by_order, follows_before, is_zero_of}
+use Rattle.linear_rows.proofs.TermLists.{by_order, follows_before}
 use Rattle.linear_rows.proofs.Integers.{mul-neg}
 use Rattle.linear_rows.proofs.Values.{sum_at-scaled}
 use Rattle.linear_rows.proofs.Normal.{sum_at-divided}
 use Rattle.linear_rows.proofs.Combining.{sum_at-weighted}
 use Rattle.farkas.specs.declared.steps.Equality.{Equality}
 use Rattle.farkas.specs.Points.{IsAbsent, IsDistinct}
-use Rattle.farkas.specs.Derivations.{Derivation, given, given_from, at_most_last, at_least_last, size_of, combination, sum_terms, sum_last, sum_constant, sum_divisor}
-use Rattle.farkas.specs.Steps.{Match, mentions, has_positive, has_negative, is_made, equality_of, without, with_var, matches_of, matches_from, matches, combined, candidates, eliminated, run}
+use Rattle.farkas.specs.Derivations.{Derivation, given_from, at_most_last, at_least_last, size_of, combination, sum_terms, sum_last, sum_constant, sum_divisor}
+use Rattle.farkas.specs.Steps.{Match, has_positive, has_negative, is_made, equality_of, without, with_var, matches_of, matches_from, matches, combined, candidates, eliminated, run}
 use Rattle.farkas.specs.Deciding.{with_one_var, with_vars, vars_of, start_of, variables_of}
 use Rattle.farkas.proofs.Summing.{divisor_positive, divisor_divides}
-use Rattle.farkas.proofs.Rings.{cancel_same, regroup}
-use Rattle.farkas.proofs.Proving.{unit, unit_first, unit_behind, both_true, lt_of, abs_above, abs_below}
+use Rattle.farkas.proofs.Rings.{cancel_same}
+use Rattle.farkas.proofs.Proving.{unit, unit_first, unit_behind, lt_of, abs_above, abs_below}
 use Rattle.farkas.proofs.Reaching.{factor_behind}
-use Rattle.farkas.proofs.Following.{Each, Each-append, Each-without, Each-with, Each-with_each, EachMatch, EachMatch-append, choose_matches, Both, matches_from-both}
+use Rattle.farkas.proofs.Following.{Each, Each-append, Each-without, Each-with, Each-with_each, EachMatch, EachMatch-append, Both, matches_from-both}
 use Rattle.farkas.proofs.Meeting.{each_without, both_each, mapped}
 use Rattle.farkas.proofs.Standing.{eliminated_collected}
 
@@ -42,15 +42,15 @@ unit_factor x [] h = refl
 unit_factor x (t ∷ ts) h =
     by_order x t.var
     (λ less.
-      let f : Follows x (t ∷ ts) = (less, follows_before x t.var ts less h.0) in unit_behind x (t ∷ ts) f ∙ sym (factor_behind x (t ∷ ts) f))
+    let f : Follows x (t ∷ ts) = (less, follows_before x t.var ts less h.0) in unit_behind x (t ∷ ts) f ∙ sym (factor_behind x (t ∷ ts) f))
     (λ equal.
-      let same = same_var x t.var equal in
-      ap (λ (w : Var). sum_at (unit w) (t ∷ ts)) same ∙ unit_first t ts h.0
-      ∙ sym (ap (λ (o : Ordering). if is_eq o then t.factor else factor_of x ts) equal))
+    let same = same_var x t.var equal in
+    ap (λ (w : Var). sum_at (unit w) (t ∷ ts)) same ∙ unit_first t ts h.0
+    ∙ sym (ap (λ (o : Ordering). if is_eq o then t.factor else factor_of x ts) equal))
     (λ greater.
-      let none : t.factor *ℤ unit x t.var ≡ pos 0 = ap (λ (o : Ordering). t.factor *ℤ (if is_eq o then pos 1 else pos 0)) greater ∙ *ℤ-zero t.factor in
-      let rest = unit_factor x ts h.1 in
-      let factor : factor_of x (t ∷ ts) ≡ factor_of x ts = ap (λ (o : Ordering). if is_eq o then t.factor else factor_of x ts) greater in omega (arith, ints))
+    let none : t.factor *ℤ unit x t.var ≡ pos 0 = ap (λ (o : Ordering). t.factor *ℤ (if is_eq o then pos 1 else pos 0)) greater ∙ *ℤ-zero t.factor in
+    let rest = unit_factor x ts h.1 in
+    let factor : factor_of x (t ∷ ts) ≡ factor_of x ts = ap (λ (o : Ordering). if is_eq o then t.factor else factor_of x ts) greater in omega (arith, ints))
 
 -- the inequality mentions none but some variables
 abbrev pub Covers : List Var → Derivation → Type 0
@@ -89,17 +89,17 @@ combination_covered y ys p n hp hn cp cn kp kn =
     let g : ℕ = sum_divisor a p b n in
     less_covered y ys (combination y p n)
     (λ x absent.
-      let e = combination_sum (unit x) y p n in
-      let f : pos a *ℤ sum_at (unit x) p.terms ≡ pos 0 = ap (λ (z : ℤ). pos a *ℤ z) (kp x absent) ∙ *ℤ-zero (pos a) in
-      let h : pos b *ℤ sum_at (unit x) n.terms ≡ pos 0 = ap (λ (z : ℤ). pos b *ℤ z) (kn x absent) ∙ *ℤ-zero (pos b) in
-      none_times g (sum_at (unit x) (combination y p n).terms) above (omega (arith, ints)))
+    let e = combination_sum (unit x) y p n in
+    let f : pos a *ℤ sum_at (unit x) p.terms ≡ pos 0 = ap (λ (z : ℤ). pos a *ℤ z) (kp x absent) ∙ *ℤ-zero (pos a) in
+    let h : pos b *ℤ sum_at (unit x) n.terms ≡ pos 0 = ap (λ (z : ℤ). pos b *ℤ z) (kn x absent) ∙ *ℤ-zero (pos b) in
+    none_times g (sum_at (unit x) (combination y p n).terms) above (omega (arith, ints)))
     (let e = combination_sum (unit y) y p n in
-     let f : pos a *ℤ sum_at (unit y) p.terms ≡ pos a *ℤ pos b =
-       ap (λ (z : ℤ). pos a *ℤ z) (unit_factor y p.terms cp.ascending ∙ abs_above (factor_of y p.terms) (lt_of (pos 0) (factor_of y p.terms) hp)) in
-     let h : pos b *ℤ sum_at (unit y) n.terms ≡ neg_ℤ (pos b *ℤ pos a) =
-       ap (λ (z : ℤ). pos b *ℤ z) (unit_factor y n.terms cn.ascending ∙ abs_below (factor_of y n.terms) (lt_of (factor_of y n.terms) (pos 0) hn)) ∙ mul-neg (pos b) (pos a) in
-     let t = *ℤ_comm (pos a) (pos b) in
-     none_times g (sum_at (unit y) (combination y p n).terms) above (omega (arith, ints)))
+    let f : pos a *ℤ sum_at (unit y) p.terms ≡ pos a *ℤ pos b =
+    ap (λ (z : ℤ). pos a *ℤ z) (unit_factor y p.terms cp.ascending ∙ abs_above (factor_of y p.terms) (lt_of (pos 0) (factor_of y p.terms) hp)) in
+    let h : pos b *ℤ sum_at (unit y) n.terms ≡ neg_ℤ (pos b *ℤ pos a) =
+    ap (λ (z : ℤ). pos b *ℤ z) (unit_factor y n.terms cn.ascending ∙ abs_below (factor_of y n.terms) (lt_of (factor_of y n.terms) (pos 0) hn)) ∙ mul-neg (pos b) (pos a) in
+    let t = *ℤ_comm (pos a) (pos b) in
+    none_times g (sum_at (unit y) (combination y p n).terms) above (omega (arith, ints)))
 
 -- a match has factors of both signs
 abbrev pub Signed : Var → Derivation → Derivation → Type 0
@@ -141,11 +141,11 @@ eliminated_covered y ys rs h c =
     let many = Each-with (CoversAll (y ∷ ys)) y rs both in
     Each-with_each (Covers ys) [] (candidates y rs) tt
     (Each-append (Covers ys) (without y rs) (combined y (matches y mentioning))
-      (mapped (λ r. CoversAll (y ∷ ys) r × (factor_of y r.terms ≡ pos 0)) (Covers ys) (without y rs)
-        (λ r k. less_covered y ys r k.0.0 (unit_factor y r.terms k.0.1.ascending ∙ k.1))
-        (both_each (CoversAll (y ∷ ys)) (λ r. factor_of y r.terms ≡ pos 0) (without y rs) (Each-without (CoversAll (y ∷ ys)) y rs both) (each_without y rs)))
-      (combined_covered y ys (matches y mentioning) (matches_from-signed y (equality_of mentioning) mentioning 0 mentioning)
-        (matches_from-both (CoversAll (y ∷ ys)) y (equality_of mentioning) mentioning 0 mentioning many many)))
+    (mapped (λ r. CoversAll (y ∷ ys) r × (factor_of y r.terms ≡ pos 0)) (Covers ys) (without y rs)
+    (λ r k. less_covered y ys r k.0.0 (unit_factor y r.terms k.0.1.ascending ∙ k.1))
+    (both_each (CoversAll (y ∷ ys)) (λ r. factor_of y r.terms ≡ pos 0) (without y rs) (Each-without (CoversAll (y ∷ ys)) y rs both) (each_without y rs)))
+    (combined_covered y ys (matches y mentioning) (matches_from-signed y (equality_of mentioning) mentioning 0 mentioning)
+    (matches_from-both (CoversAll (y ∷ ys)) y (equality_of mentioning) mentioning 0 mentioning many many)))
 
 no_terms : (ts : List RowTerm) → IsCollected ts → ((x : Var) → IsAbsent x [] → sum_at (unit x) ts ≡ pos 0) → ts ≡ []
 no_terms [] c h = refl
@@ -165,9 +165,9 @@ absent_one z x (v ∷ vs) h =
     by_order x v
     (λ less. let k = subst (λ (us : List Var). IsAbsent z us) (ap (λ (o : Ordering). match_ordering o (x ∷ v ∷ vs) (v ∷ vs) (v ∷ with_one_var x vs)) less) h in (k.0, k.1))
     (λ equal. let k = subst (λ (us : List Var). IsAbsent z us) (ap (λ (o : Ordering). match_ordering o (x ∷ v ∷ vs) (v ∷ vs) (v ∷ with_one_var x vs)) equal) h in
-      ((λ e. k.0 (e ∙ same_var x v equal)), k))
+    ((λ e. k.0 (e ∙ same_var x v equal)), k))
     (λ greater. let k = subst (λ (us : List Var). IsAbsent z us) (ap (λ (o : Ordering). match_ordering o (x ∷ v ∷ vs) (v ∷ vs) (v ∷ with_one_var x vs)) greater) h in
-      let rest = absent_one z x vs k.1 in (rest.0, (k.0, rest.1)))
+    let rest = absent_one z x vs k.1 in (rest.0, (k.0, rest.1)))
 
 absent_terms : (z : Var) (vs : List Var) (ts : List RowTerm) → IsAbsent z (with_vars vs ts) → IsAbsent z vs × (sum_at (unit z) ts ≡ pos 0)
 absent_terms z vs [] h = (h, refl)
@@ -193,10 +193,10 @@ given_covered rows = each_covers (vars_of [] rows) (given_from 0 rows) (λ z abs
 pub start_covered : (rows : List Inequality) (row : Inequality) → Each (Covers (variables_of rows row)) (start_of rows row)
 start_covered rows row =
     each_covers (variables_of rows row) (start_of rows row) (λ z absent.
-      let parts = absent_rows z (with_vars [] row.terms) rows 0 absent in
-      let one = (absent_terms z [] row.terms parts.0).1 in
-      Each-append (λ r. sum_at (unit z) r.terms ≡ pos 0) (given_from 0 rows) (at_most_last row.terms ∷ at_least_last row.terms ∷ []) parts.1
-      (one, (sum_at-scaled (unit z) (negsuc 0) row.terms ∙ ap (λ (n : ℤ). negsuc 0 *ℤ n) one ∙ *ℤ-zero (negsuc 0), tt)))
+    let parts = absent_rows z (with_vars [] row.terms) rows 0 absent in
+    let one = (absent_terms z [] row.terms parts.0).1 in
+    Each-append (λ r. sum_at (unit z) r.terms ≡ pos 0) (given_from 0 rows) (at_most_last row.terms ∷ at_least_last row.terms ∷ []) parts.1
+    (one, (sum_at-scaled (unit z) (negsuc 0) row.terms ∙ ap (λ (n : ℤ). negsuc 0 *ℤ n) one ∙ *ℤ-zero (negsuc 0), tt)))
 
 -- ascending variables
 abbrev pub After : Var → List Var → Type 0

@@ -1,27 +1,18 @@
 -- Each row of a run follows from the given ones by its multipliers.
-use Rattle.std.proofs.Common.{◌≡◌, ◌≢◌, refl, sym, ap, ◌∙◌, subst, ℕ, zero, suc, ◌+◌, ◌*◌, ◌/◌, ◌<◌, ◌≤◌, max, ℤ, pos, negsuc, neg_ℤ, ◌+ℤ◌, ◌*ℤ◌, ◌≤ℤ◌, ◌<ℤ◌, List, [], ◌∷◌, ◌++◌, length, Bool, true, false, inl, inr, arith}
-use Rattle.std.specs.Prelude.{if◌then◌else◌, unsigned_abs}
-use Rattle.std.specs.Int.{◌∣◌}
+use Rattle.std.proofs.Common.{◌≡◌, sym, ap, ◌∙◌, ℕ, zero, suc, ◌*◌, ◌/◌, ◌<◌, max, ℤ, pos, ◌+ℤ◌, ◌*ℤ◌, List, arith}
 use Rattle.std.proofs.lemmas.Int.{ints}
-use Rattle.std.proofs.Math.Nat.{mul-div_cancel', pos_of_dvd_of_pos, mul-pos}
-use Rattle.std.proofs.Math.IntN.{zero-*ℤ, *ℤ-zero, *ℤ_comm}
-use Rattle.linear_rows.specs.declared.rows.Var.{Var}
+use Rattle.std.proofs.Math.Nat.{mul-div_cancel', mul-pos}
 use Rattle.linear_rows.specs.declared.rows.RowTerm.{RowTerm}
 use Rattle.linear_rows.specs.Rows.{Inequality, Valuation, sum_at}
-use Rattle.linear_rows.specs.Terms.{scaled_terms}
-use Rattle.linear_rows.specs.Forms.{weighted_terms, weighted_constant}
 use Rattle.linear_rows.specs.NormalForm.{divided, floor}
 use Rattle.linear_rows.proofs.Integers.{mul-add, add-mul, mul_assoc}
-use Rattle.linear_rows.proofs.Values.{sum_at-scaled}
 use Rattle.linear_rows.proofs.Combining.{sum_at-weighted}
 use Rattle.linear_rows.proofs.Normal.{sum_at-divided}
 use Rattle.linear_rows.proofs.Rounding.{floor_exact}
-use Rattle.farkas.specs.declared.answers.Multiplier.{Multiplier}
 use Rattle.farkas.specs.declared.weights.Support.{Support}
-use Rattle.farkas.specs.Evidence.{row_at, EachNamed}
-use Rattle.farkas.specs.Weights.{weighted_multipliers, common_factor, divided_multipliers, weighted_support, combined_support, lowest_support}
-use Rattle.farkas.specs.Derivations.{Derivation, left_at, weighted_sum, sum_terms, sum_last, sum_constant, sum_divisor, divisor_of_all}
-use Rattle.farkas.proofs.Soundness.{one-mul}
+use Rattle.farkas.specs.Evidence.{EachNamed}
+use Rattle.farkas.specs.Weights.{common_factor, divided_multipliers, weighted_support, combined_support}
+use Rattle.farkas.specs.Derivations.{Derivation, left_at, weighted_sum, sum_terms, sum_last, sum_constant, sum_divisor}
 use Rattle.farkas.proofs.Summing.{divisor_divides, divisor_divides_numbers, divisor_positive}
 use Rattle.farkas.proofs.Rings.{derived_number}
 use Rattle.farkas.proofs.Totals.{total, total-weighted, total-divided, support_divides, named-scaled, named-summed, named-divided}
@@ -110,6 +101,6 @@ sum_derived rows tested a b p n hp hn =
       positive = support_positive a b g p.support n.support hp.positive hn.positive above;
       named = support_named rows a b g p.support n.support hp.named hn.named;
       left = λ v. support_combined rows (side_at v) a b g p.support n.support (left_at v (sum_at v tested) p) (left_at v (sum_at v tested) n) _ hp.positive hn.positive above (hp.left v) (hn.left v)
-        (sum_left v (sum_at v tested) a b p n);
+          (sum_left v (sum_at v tested) a b p n);
       constant = support_combined rows constant_of a b g p.support n.support p.constant n.constant _ hp.positive hn.positive above hp.constant hn.constant (sum_number a b p n);
     }

@@ -1,16 +1,16 @@
 -- What holds of the rows of a run.
-use Rattle.std.proofs.Common.{◌≡◌, refl, sym, ap, ◌∙◌, subst, ℕ, zero, suc, ◌+◌, ◌<◌, ◌≤◌, ℤ, pos, negsuc, ◌+ℤ◌, ◌*ℤ◌, List, [], ◌∷◌, ◌++◌, length, length-append, append_assoc, Bool, true, false, arith}
+use Rattle.std.proofs.Common.{◌≡◌, refl, sym, ap, ◌∙◌, ℕ, ◌+◌, ◌<◌, ℤ, pos, negsuc, ◌+ℤ◌, ◌*ℤ◌, List, [], ◌∷◌, ◌++◌, length, length-append, append_assoc, Bool, true, false, arith}
 use Rattle.std.specs.Prelude.{if◌then◌else◌, ◌&&◌}
 use Rattle.std.proofs.lemmas.Int.{ints}
-use Rattle.std.proofs.Math.IntN.{zero-*ℤ, *ℤ-zero}
+use Rattle.std.proofs.Math.IntN.{zero-*ℤ}
 use Rattle.linear_rows.specs.declared.rows.Var.{Var}
 use Rattle.linear_rows.specs.declared.rows.RowTerm.{RowTerm}
-use Rattle.linear_rows.specs.Rows.{Inequality, Valuation, sum_at}
+use Rattle.linear_rows.specs.Rows.{Inequality, sum_at}
 use Rattle.linear_rows.specs.Terms.{scaled_terms}
 use Rattle.linear_rows.proofs.Values.{sum_at-scaled}
 use Rattle.farkas.specs.declared.steps.Equality.{Equality}
 use Rattle.std.specs.Prelude.{Option}
-use Rattle.farkas.specs.Evidence.{row_at, EachNamed}
+use Rattle.farkas.specs.Evidence.{row_at}
 use Rattle.farkas.specs.Derivations.{Derivation, given, given_from, at_most_last, at_least_last, combination, left_at, size_of}
 use Rattle.farkas.specs.Steps.{Match, mentions, has_positive, has_negative, is_made, equality_of, without, with_var, matches_of, matches_from, matches, combined, candidates, is_plain, is_covered, without_alike, is_alike, with_one, with_each, eliminated, run}
 use Rattle.farkas.specs.Deciding.{start_of}
@@ -110,22 +110,23 @@ given_derived tested rows place row h e = record {
   positive = omega arith;
   named = (h, tt);
   left = λ v.
-    (let f = zero-*ℤ (sum_at v tested) in let g = one-mul (left_at v (sum_at v tested) (given place row)) in
-     let k : side_at v (row_at rows place) ≡ side_at v row = ap (side_at v) e in
-     let l = one-mul (side_at v (row_at rows place)) in omega (arith, ints));
+      (let f = zero-*ℤ (sum_at v tested) in let g = one-mul (left_at v (sum_at v tested) (given place row)) in
+      let k : side_at v (row_at rows place) ≡ side_at v row = ap (side_at v) e in
+      let l = one-mul (side_at v (row_at rows place)) in omega (arith, ints));
   constant =
-    (let g = one-mul row.constant in let k : constant_of (row_at rows place) ≡ constant_of row = ap constant_of e in
-     let l = one-mul (constant_of (row_at rows place)) in omega (arith, ints));
+      (let g = one-mul row.constant in let k : constant_of (row_at rows place) ≡ constant_of row = ap constant_of e in
+      let l = one-mul (constant_of (row_at rows place)) in omega (arith, ints));
 }
 
 given_from_derived : (tested : List RowTerm) (all front rest : List Inequality) (place : ℕ) → all ≡ front ++ rest → place ≡ length front → Each (IsDerived all tested) (given_from place rest)
 given_from_derived tested all front [] place e n = tt
-given_from_derived tested all front (row ∷ rest) place e n =
-    (given_derived tested all place row
+given_from_derived tested all front (row ∷ rest) place e n = (
+  given_derived tested all place row
       (let k : length all ≡ length front + length (row ∷ rest) = ap length e ∙ length-append {A = Inequality} front (row ∷ rest) in omega arith)
       (ap (λ (rows : List Inequality). row_at rows place) e ∙ ap (row_at (front ++ row ∷ rest)) n ∙ row_behind front row rest),
-     given_from_derived tested all (front ++ row ∷ []) rest (place + 1) (e ∙ sym (append_assoc front (row ∷ []) rest))
-      (let k = length-append {A = Inequality} front (row ∷ []) in omega arith))
+  given_from_derived tested all (front ++ row ∷ []) rest (place + 1) (e ∙ sym (append_assoc front (row ∷ []) rest))
+      (let k = length-append {A = Inequality} front (row ∷ []) in omega arith),
+)
 
 pub given_all_derived : (tested : List RowTerm) (rows : List Inequality) → Each (IsDerived rows tested) (given_from 0 rows)
 given_all_derived tested rows = given_from_derived tested rows [] rows 0 refl refl
@@ -146,8 +147,8 @@ at_least_derived rows tested = record {
   positive = omega arith;
   named = tt;
   left = λ v. (let e = sum_at-scaled v (negsuc 0) tested in let f = one-mul (sum_at v tested) in
-    let h = minus_one (sum_at v tested) in
-    let g = one-mul (sum_at v (scaled_terms (negsuc 0) tested) +ℤ (pos 1 *ℤ sum_at v tested)) in omega (arith, ints));
+      let h = minus_one (sum_at v tested) in
+      let g = one-mul (sum_at v (scaled_terms (negsuc 0) tested) +ℤ (pos 1 *ℤ sum_at v tested)) in omega (arith, ints));
   constant = refl;
 }
   where

@@ -15,14 +15,15 @@ by_cases x y ne less more = ⊎_elim less (λ le. more (omega arith)) (cases_lt 
 pub whole_parts : (a m b n : ℕ) → 0 < m → 0 < n → (a / m) ≢ (b / n) → (a / m < b / n) ↔ (a * n < b * m)
 whole_parts a m b n h k d =
     let first = div-add-mod a m in let second = div-add-mod b n in
-    let r = mod-lt a h in let s = mod-lt b k in
-    (λ less. let e = below m n (a / m) (b / n) (a % m) (b % n) r less k in
-      let f : a * n ≡ (m * (a / m) + a % m) * n = ap (λ x. x * n) (sym first) in
-      let g : b * m ≡ (n * (b / n) + b % n) * m = ap (λ x. x * m) (sym second) in omega arith,
-     λ less. by_cases (a / m) (b / n) d (λ x. x) (λ more.
-      let e = below n m (b / n) (a / m) (b % n) (a % m) s more h in
-      let f : a * n ≡ (m * (a / m) + a % m) * n = ap (λ x. x * n) (sym first) in
-      let g : b * m ≡ (n * (b / n) + b % n) * m = ap (λ x. x * m) (sym second) in absurd (omega arith)))
+    let r = mod-lt a h in let s = mod-lt b k in (
+      λ less. let e = below m n (a / m) (b / n) (a % m) (b % n) r less k in
+          let f : a * n ≡ (m * (a / m) + a % m) * n = ap (λ x. x * n) (sym first) in
+          let g : b * m ≡ (n * (b / n) + b % n) * m = ap (λ x. x * m) (sym second) in omega arith,
+      λ less. by_cases (a / m) (b / n) d (λ x. x) (λ more.
+          let e = below n m (b / n) (a / m) (b % n) (a % m) s more h in
+          let f : a * n ≡ (m * (a / m) + a % m) * n = ap (λ x. x * n) (sym first) in
+          let g : b * m ≡ (n * (b / n) + b % n) * m = ap (λ x. x * m) (sym second) in absurd (omega arith)),
+    )
 
 rests_of : (m n p r s : ℕ) → (n * r < m * s) ↔ ((m * p + r) * n < (n * p + s) * m)
 rests_of m n p r s = (λ h. omega arith, λ h. omega arith)
@@ -44,8 +45,8 @@ pub rest_alone : (a m b n : ℕ) → 0 < m → (a / m) ≡ (b / n) → a % m ≡
 rest_alone a m b n p e z d =
     (rests a m b n e).0
     (let l : n * (a % m) ≡ n * 0 = ap (λ x. n * x) z in
-     let one : 1 ≤ b % n = omega arith in
-     let k = mul-le-mul_left {m = 1} {n = b % n} m one in omega arith)
+    let one : 1 ≤ b % n = omega arith in
+    let k = mul-le-mul_left {m = 1} {n = b % n} m one in omega arith)
 
 pub lt_iff : (x y : ℕ) → IsTrue (nat_lt x y) ↔ (x < y)
 lt_iff x y = (λ h. search rules, λ h. search rules)

@@ -1,9 +1,8 @@
 -- A row that the rows have is proved by one of them alone.
-use Rattle.std.proofs.Common.{◌≡◌, refl, sym, ap, ◌∙◌, subst, ℕ, zero, suc, ◌+◌, ◌<◌, ℤ, pos, ◌+ℤ◌, ◌*ℤ◌, ◌≤ℤ◌, ◌<ℤ◌, List, [], ◌∷◌, length, ◌⊎◌, inl, inr, ⊎_elim, Bool, true, false, Option, Some, None, arith}
+use Rattle.std.proofs.Common.{◌≡◌, refl, sym, ap, ◌∙◌, subst, ℕ, zero, suc, ◌+◌, ◌<◌, ℤ, pos, ◌≤ℤ◌, ◌<ℤ◌, List, [], ◌∷◌, length, ◌⊎◌, inl, inr, ⊎_elim, Bool, true, false, Option, Some, None, arith}
 use Rattle.std.specs.Prelude.{if◌then◌else◌, ◌&&◌, ◌||◌, int_lt, int_le, option_map}
 use Rattle.std.proofs.lemmas.Int.{ints}
 use Rattle.std.specs.Cmp.{signed_Decides}
-use Rattle.std.proofs.Math.IntN.{*ℤ-zero}
 use Rattle.std.specs.Ordering.{is_eq, int_eq}
 use Rattle.linear_rows.specs.declared.rows.RowTerm.{RowTerm}
 use Rattle.linear_rows.specs.declared.rows.Var.{Var}
@@ -17,15 +16,13 @@ use Rattle.farkas.specs.declared.answers.Answer.{Answer}
 use Rattle.farkas.specs.declared.answers.Answer.TheVariants.{Proved, Refuted, Beyond}
 use Rattle.farkas.specs.declared.answers.Emptiness.{Emptiness}
 use Rattle.farkas.specs.declared.answers.Emptiness.TheVariants as emptiness
-use Rattle.farkas.specs.declared.answers.Multiplier.{Multiplier}
-use Rattle.farkas.specs.Evidence.{nothing, row_at, combined_terms, combined_constant, IsProof, IsEmptyProof}
+use Rattle.farkas.specs.Evidence.{row_at, combined_terms, combined_constant, IsProof, IsEmptyProof}
 use Rattle.farkas.specs.Answers.{CarriesEvidence, CarriesEmptiness, Decides, DecidesEmptiness, IsProved, IsEmptyAnswer, IsPlain, IsAbsurd, Gives, Have, HaveAbsurd}
 use Rattle.farkas.specs.Derivations.{Derivation, EachCollected, given_from}
 use Rattle.farkas.specs.Steps.{are_same, has_no_terms}
 use Rattle.farkas.specs.Deciding.{gives, giver_place, alone, had_answer, absurd_place, had_emptiness, start_of, answer_of_run, emptiness_of_run}
 use Rattle.farkas.proofs.Soundness.{one-mul, proof_entails, refutation_refutes, empty_proof_empties, witness_inhabits}
 use Rattle.farkas.proofs.Concluding.{run_carries, emptiness_carries}
-use Rattle.farkas.proofs.Totals.{total}
 use Rattle.farkas.proofs.Deriving.{side_at, constant_of}
 use Rattle.farkas.proofs.Proving.{both_true, lt_of, bare, same_terms, combined_side, combined_number, combined_is_collected, HasNoZero-scaled}
 use Rattle.farkas.proofs.Following.{Each}
@@ -148,8 +145,10 @@ alone_empties rows place h a =
     let sum = combined_is_collected rows (alone place) in
     record {
       named = (h, tt);
-      shown = (same_terms (combined_terms rows (alone place)) [] sum.ascending sum.nonzero tt tt (λ v. alone_side rows place v ∙ ap (sum_at v) a.0),
-        (let e = alone_constant rows place in let f = a.1 in omega (arith, ints)));
+      shown = (
+        same_terms (combined_terms rows (alone place)) [] sum.ascending sum.nonzero tt tt (λ v. alone_side rows place v ∙ ap (sum_at v) a.0),
+        (let e = alone_constant rows place in let f = a.1 in omega (arith, ints)),
+      );
     }
 
 alone_proves : (rows : List Inequality) (row : Inequality) (place : ℕ) → IsCollected row.terms → place < length rows → Gives (row_at rows place) row → IsProof rows row (alone place) 1
@@ -158,10 +157,12 @@ alone_proves rows row place c h (inl g) =
     record {
       positive = omega arith;
       named = (h, tt);
-      shown = inl (same_terms (combined_terms rows (alone place)) (scaled_terms (pos 1) row.terms) sum.ascending sum.nonzero
-          (IsAscending-scaled (pos 1) row.terms c.ascending) (HasNoZero-scaled 1 row.terms (omega arith) c.nonzero)
-          (λ v. alone_side rows place v ∙ ap (sum_at v) g.0 ∙ sym (one-mul (sum_at v row.terms)) ∙ sym (sum_at-scaled v (pos 1) row.terms)),
-        (let e = alone_constant rows place in let f = g.1 in let k = one-mul row.constant in omega (arith, ints)));
+      shown = inl (
+        same_terms (combined_terms rows (alone place)) (scaled_terms (pos 1) row.terms) sum.ascending sum.nonzero
+            (IsAscending-scaled (pos 1) row.terms c.ascending) (HasNoZero-scaled 1 row.terms (omega arith) c.nonzero)
+            (λ v. alone_side rows place v ∙ ap (sum_at v) g.0 ∙ sym (one-mul (sum_at v row.terms)) ∙ sym (sum_at-scaled v (pos 1) row.terms)),
+        (let e = alone_constant rows place in let f = g.1 in let k = one-mul row.constant in omega (arith, ints)),
+      );
     }
 alone_proves rows row place c h (inr g) =
     let p = alone_empties rows place h g in record { positive = omega arith; named = p.named; shown = inr p.shown }

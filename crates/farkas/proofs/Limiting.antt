@@ -1,6 +1,6 @@
 -- The least limit of a variable is at most each limit.
-use Rattle.std.proofs.Common.{◌≡◌, refl, sym, ap, ◌∙◌, subst, ℕ, zero, suc, ◌+◌, ◌*◌, ◌<◌, ◌≤◌, ℤ, pos, ◌+ℤ◌, ◌*ℤ◌, ◌≤ℤ◌, ◌<ℤ◌, List, [], ◌∷◌, ◌⊎◌, inl, inr, Bool, true, false, Option, Some, None, arith}
-use Rattle.std.specs.Prelude.{if◌then◌else◌, int_lt, unsigned_abs}
+use Rattle.std.proofs.Common.{◌≡◌, refl, sym, ap, ◌∙◌, ℕ, ◌<◌, ℤ, pos, ◌*ℤ◌, ◌≤ℤ◌, List, [], ◌∷◌, ◌⊎◌, inl, inr, Bool, true, false, Some, None, arith}
+use Rattle.std.specs.Prelude.{if◌then◌else◌}
 use Rattle.std.proofs.lemmas.Int.{ints}
 use Rattle.std.proofs.Math.IntN.{*ℤ_comm}
 use Rattle.linear_rows.specs.declared.rows.Var.{Var}
@@ -69,7 +69,7 @@ least_step T up y p r rs b h t k rec true e true f =
     record {
       limit = m.limit;
       found = ap (λ (d : Bool). if d then least_limit up y p (lesser (Some b) c) rs else least_limit up y p (Some b) rs) e
-        ∙ ap (λ (d : Bool). least_limit up y p (if d then Some c else Some b) rs) f ∙ m.found;
+          ∙ ap (λ (d : Bool). least_limit up y p (if d then Some c else Some b) rs) f ∙ m.found;
       below = Le-trans m.limit c b (limits_sized up y r e) m.below (less c b f);
       known = record { sized = m.known.sized; told = m.known.told; least = ((λ g. m.below), m.known.least) };
     }
@@ -79,7 +79,7 @@ least_step T up y p r rs b h t k rec true e false f =
     record {
       limit = m.limit;
       found = ap (λ (d : Bool). if d then least_limit up y p (lesser (Some b) c) rs else least_limit up y p (Some b) rs) e
-        ∙ ap (λ (d : Bool). least_limit up y p (if d then Some c else Some b) rs) f ∙ m.found;
+          ∙ ap (λ (d : Bool). least_limit up y p (if d then Some c else Some b) rs) f ∙ m.found;
       below = m.below;
       known = record { sized = m.known.sized; told = m.known.told; least = ((λ g. Le-trans m.limit b c h m.below (not_less c b f)), m.known.least) };
     }

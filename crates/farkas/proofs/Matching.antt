@@ -134,9 +134,9 @@ several_taken y all ms rest made made' count kept kept' start p m w k = record {
   numbered = (let h = p.numbered in let g = length-append {A = Match} ms rest in omega arith);
   fits = λ h. p.fits (fit-append y ms rest ∙ and_false (matches_fit y ms) (matches_fit y rest) h);
   told =
-    ap (λ (ks : List Derivation). with_each ks (combined y rest)) k
-    ∙ sym (with_each-append kept (combined y ms) (combined y rest))
-    ∙ ap (with_each kept) (sym (combined-append y ms rest)) ∙ p.told;
+      ap (λ (ks : List Derivation). with_each ks (combined y rest)) k
+      ∙ sym (with_each-append kept (combined y ms) (combined y rest))
+      ∙ ap (with_each kept) (sym (combined-append y ms rest)) ∙ p.told;
 }
 
 both_ways : (a b : Bool) → (a && b) ≡ false → (a ≡ false) ⊎ (b ≡ false)

@@ -1,36 +1,30 @@
 -- The point with one more number meets each inequality that the step had.
-use Rattle.std.proofs.Common.{◌≡◌, ◌≢◌, refl, sym, ap, ◌∙◌, subst, ℕ, zero, suc, ◌+◌, ◌*◌, ◌<◌, ◌≤◌, max, ℤ, pos, negsuc, neg_ℤ, ◌+ℤ◌, ◌*ℤ◌, ◌≤ℤ◌, ◌<ℤ◌, List, [], ◌∷◌, ◌++◌, length, ◌⊎◌, inl, inr, ⊎_elim, Bool, true, false, Option, Some, None, arith}
-use Rattle.std.specs.Prelude.{if◌then◌else◌, ◌&&◌, ◌||◌, ◌-ℤ◌, int_lt, int_le, unsigned_abs}
+use Rattle.std.proofs.Common.{◌≡◌, refl, sym, ap, ◌∙◌, subst, ℕ, zero, suc, ◌<◌, ℤ, pos, neg_ℤ, ◌+ℤ◌, ◌*ℤ◌, ◌≤ℤ◌, ◌<ℤ◌, List, [], ◌∷◌, ◌++◌, ◌⊎◌, inl, inr, ⊎_elim, Bool, true, false, Option, None, arith}
+use Rattle.std.specs.Prelude.{if◌then◌else◌, ◌&&◌, ◌||◌, ◌-ℤ◌, int_le}
 use Rattle.std.proofs.lemmas.Int.{ints}
 use Rattle.std.proofs.Math.IntN.{zero-*ℤ, *ℤ-zero, *ℤ_comm}
-use Rattle.std.specs.Int.{◌∣◌}
-use Rattle.std.proofs.lemmas.Nat.Gcd.{dvd_trans, dvd_refl}
 use Rattle.std.specs.Ordering.{is_eq, int_eq}
 use Rattle.linear_rows.specs.declared.rows.Var.{Var}
 use Rattle.linear_rows.specs.declared.rows.RowTerm.{RowTerm}
 use Rattle.linear_rows.specs.Variables.{var_cmp}
-use Rattle.linear_rows.specs.Rows.{Valuation, sum_at}
+use Rattle.linear_rows.specs.Rows.{sum_at}
 use Rattle.linear_rows.specs.Terms.{IsAscending, factor_of, is_zero}
-use Rattle.linear_rows.specs.NormalForm.{floor, gcd}
 use Rattle.linear_rows.proofs.VariableOrder.{same_var}
-use Rattle.linear_rows.proofs.TermLists.{is_zero_of, zero_or_not}
-use Rattle.linear_rows.proofs.Integers.{mul-add, add-mul, mul_assoc, mul-neg, neg-mul}
-use Rattle.linear_rows.proofs.Rounding.{mul_monotone, floor_exact}
-use Rattle.linear_rows.proofs.Divisors.{IsGcd-gcd}
+use Rattle.linear_rows.proofs.TermLists.{is_zero_of}
+use Rattle.linear_rows.proofs.Integers.{mul-add, mul-neg, neg-mul}
+use Rattle.linear_rows.proofs.Rounding.{mul_monotone}
 use Rattle.farkas.specs.declared.placing.Placed.{Placed}
 use Rattle.farkas.specs.declared.placing.Limit.{Limit}
-use Rattle.farkas.specs.Points.{number_of}
-use Rattle.farkas.specs.Derivations.{Derivation, left_at, HoldsAt, size_of, combination}
-use Rattle.farkas.specs.Steps.{Match, mentions, has_positive, has_negative, without, with_var, matches, combined, candidates, are_same, is_alike, is_covered, without_alike, has_no_terms, is_plain, with_one, with_each, eliminated}
-use Rattle.farkas.specs.Placing.{slack_of, limit_of, limits, least_limit, extended, common_number, point_divisor, divided_numbers, lowest_point, from_below, from_above, chosen, with_number}
+use Rattle.farkas.specs.Derivations.{Derivation, HoldsAt, size_of}
+use Rattle.farkas.specs.Steps.{Match, mentions, has_positive, has_negative, without, with_var, matches, combined, are_same, is_alike, is_covered, without_alike, has_no_terms, is_plain, with_one, with_each}
+use Rattle.farkas.specs.Placing.{slack_of, limit_of, limits, least_limit, extended, from_above, chosen}
 use Rattle.std.specs.Cmp.{signed_Decides}
-use Rattle.farkas.proofs.Soundness.{cancel, one-mul, at_most_times}
-use Rattle.farkas.proofs.Proving.{lt_of, ge_of, abs_above, abs_below, both_true, bare}
-use Rattle.farkas.proofs.Rings.{regroup}
+use Rattle.farkas.proofs.Soundness.{at_most_times}
+use Rattle.farkas.proofs.Proving.{lt_of, abs_above, abs_below, both_true, bare}
 use Rattle.farkas.proofs.Following.{Each, Each-front, Each-without, Each-with, EachMatch}
-use Rattle.farkas.proofs.Agreeing.{room, Agree, AgreeAt, IsAt, sum_agrees, pairs_agree, equal_of, signed}
-use Rattle.farkas.proofs.Reaching.{numbers_at, room_at, slack_of-is, holds_room, room_holds, room_extended, same_sum, absent_zero}
-use Rattle.farkas.proofs.Limiting.{Le, Least, NoLimit, SomeLimit, least}
+use Rattle.farkas.proofs.Agreeing.{Agree, AgreeAt, IsAt, sum_agrees, pairs_agree, equal_of, signed}
+use Rattle.farkas.proofs.Reaching.{numbers_at, room_at, slack_of-is, holds_room, room_holds, room_extended}
+use Rattle.farkas.proofs.Limiting.{Le, NoLimit, SomeLimit, least}
 
 -- the inequality holds at the point
 abbrev pub At : Placed → Derivation → Type 0
@@ -197,7 +191,7 @@ under : (y : Var) (u : Limit) (p : Placed) (r : Derivation) → numbers_at p y �
 under y u p r h a f k =
     let e = room_extended y u.slack u.size p r h a in
     let factor : factor_of y r.terms *ℤ u.slack ≡ u.slack *ℤ pos (size_of y r) =
-      ap (λ (z : ℤ). z *ℤ u.slack) (abs_above (factor_of y r.terms) (lt_of (pos 0) (factor_of y r.terms) f)) ∙ *ℤ_comm (pos (size_of y r)) u.slack in
+    ap (λ (z : ℤ). z *ℤ u.slack) (abs_above (factor_of y r.terms) (lt_of (pos 0) (factor_of y r.terms) f)) ∙ *ℤ_comm (pos (size_of y r)) u.slack in
     let room_is = slack_of-is p r in
     let turned : slack_of p r *ℤ pos u.size ≡ pos u.size *ℤ room_at p r = *ℤ_comm (slack_of p r) (pos u.size) ∙ ap (λ (z : ℤ). pos u.size *ℤ z) room_is in
     holds_room (extended y u.slack u.size p) r (omega (arith, ints))
@@ -216,7 +210,7 @@ over : (y : Var) (l : Limit) (p : Placed) (r : Derivation) → numbers_at p y �
 over y l p r h a f k =
     let e = room_extended y (pos 0 -ℤ l.slack) l.size p r h a in
     let factor : factor_of y r.terms *ℤ (pos 0 -ℤ l.slack) ≡ l.slack *ℤ pos (size_of y r) =
-      ap (λ (z : ℤ). z *ℤ (pos 0 -ℤ l.slack)) (abs_below (factor_of y r.terms) (lt_of (factor_of y r.terms) (pos 0) f)) ∙ minus_minus (size_of y r) l.slack in
+    ap (λ (z : ℤ). z *ℤ (pos 0 -ℤ l.slack)) (abs_below (factor_of y r.terms) (lt_of (factor_of y r.terms) (pos 0) f)) ∙ minus_minus (size_of y r) l.slack in
     let room_is = slack_of-is p r in
     let turned : slack_of p r *ℤ pos l.size ≡ pos l.size *ℤ room_at p r = *ℤ_comm (slack_of p r) (pos l.size) ∙ ap (λ (z : ℤ). pos l.size *ℤ z) room_is in
     holds_room (extended y (pos 0 -ℤ l.slack) l.size p) r (omega (arith, ints))
@@ -227,7 +221,7 @@ between y l p r h a f k =
     let e = room_extended y (pos 0 -ℤ l.slack) l.size p r h a in
     let b : ℕ = size_of y r in
     let first : factor_of y r.terms *ℤ (pos 0 -ℤ l.slack) ≡ pos b *ℤ (pos 0 -ℤ l.slack) =
-      ap (λ (z : ℤ). z *ℤ (pos 0 -ℤ l.slack)) (abs_above (factor_of y r.terms) (lt_of (pos 0) (factor_of y r.terms) f)) in
+    ap (λ (z : ℤ). z *ℤ (pos 0 -ℤ l.slack)) (abs_above (factor_of y r.terms) (lt_of (pos 0) (factor_of y r.terms) f)) in
     let g : pos 0 -ℤ l.slack ≡ pos 0 +ℤ neg_ℤ l.slack = omega (arith, ints) in
     let second : pos b *ℤ (pos 0 -ℤ l.slack) ≡ pos b *ℤ (pos 0 +ℤ neg_ℤ l.slack) = ap (λ (x : ℤ). pos b *ℤ x) g in
     let third = mul-add (pos b) (pos 0) (neg_ℤ l.slack) in let fourth = mul-neg (pos b) l.slack in let z = *ℤ-zero (pos b) in
@@ -248,7 +242,7 @@ free_kept y n m rs p b =
     mapped (λ r. (IsAscending r.terms × At p r) × (factor_of y r.terms ≡ pos 0)) (At (extended y n m p)) (without y rs)
     (λ r h. kept y n m p r b.none h.0.0 h.1 h.0.1)
     (both_each (λ r. IsAscending r.terms × At p r) (λ r. factor_of y r.terms ≡ pos 0) (without y rs)
-      (both_each (λ r. IsAscending r.terms) (At p) (without y rs) (Each-parts (λ r. IsAscending r.terms) y rs b.ascending).0 b.free) (each_without y rs))
+    (both_each (λ r. IsAscending r.terms) (At p) (without y rs) (Each-parts (λ r. IsAscending r.terms) y rs b.ascending).0 b.free) (each_without y rs))
 
 -- what a limit from below has to agree with
 abbrev pub AgreesAbove : Var → Placed → List Derivation → Limit → Type 0
@@ -258,16 +252,16 @@ lower_agrees : (y : Var) (rs : List Derivation) (p : Placed) → Before y rs p �
 lower_agrees y rs p b =
     let all : List Derivation = with_var y rs in
     by_place (λ r. limits false y r ≡ true → AgreesAbove y p all (limit_of y p r)) all (λ j n at_n negative k q at_q positive.
-      subst (λ (x : ℤ). Agree (size_of y q) (room_at p q) (size_of y n) x) (sym (slack_of-is p n))
-      (pairs_agree y (numbers_at p) p.last p.divisor all k j q n (λ i r at. at_place (λ s. is_zero (factor_of y s.terms) ≡ false) all i r (each_mentions y rs) at) b.agree at_q positive at_n negative))
+    subst (λ (x : ℤ). Agree (size_of y q) (room_at p q) (size_of y n) x) (sym (slack_of-is p n))
+    (pairs_agree y (numbers_at p) p.last p.divisor all k j q n (λ i r at. at_place (λ s. is_zero (factor_of y s.terms) ≡ false) all i r (each_mentions y rs) at) b.agree at_q positive at_n negative))
 
 with_kept : (y : Var) (rs : List Derivation) (q : Placed) → Each (λ r. IsAscending r.terms) rs →
     ((k : ℕ) (r : Derivation) → IsAt (with_var y rs) k r → IsAscending r.terms → (has_positive y r ≡ true) ⊎ (has_negative y r ≡ true) → At q r) → Each (At q) (with_var y rs)
 with_kept y rs q a f =
     let all : List Derivation = with_var y rs in
     by_place (At q) all (λ k r at.
-      f k r at (at_place (λ s. IsAscending s.terms) all k r (Each-parts (λ s. IsAscending s.terms) y rs a).1 at)
-      (signed (factor_of y r.terms) (at_place (λ s. is_zero (factor_of y s.terms) ≡ false) all k r (each_mentions y rs) at)))
+    f k r at (at_place (λ s. IsAscending s.terms) all k r (Each-parts (λ s. IsAscending s.terms) y rs a).1 at)
+    (signed (factor_of y r.terms) (at_place (λ s. is_zero (factor_of y s.terms) ≡ false) all k r (each_mentions y rs) at)))
 
 -- a number was chosen: over a positive size, and so that all hold
 pub record Chosen (y : Var) (rs : List Derivation) (p q : Placed) : Type 0 where
@@ -290,7 +284,7 @@ from_lower y rs p b s =
       positive = s.known.sized;
       is = refl;
       holds = rejoined (At q) y rs (free_kept y (pos 0 -ℤ l.slack) l.size rs p b)
-        (with_kept y rs q b.ascending (λ k r at a.
+          (with_kept y rs q b.ascending (λ k r at a.
           ⊎_elim (λ positive. between y l p r b.none a positive (s.known.told k r at positive))
           (λ negative. over y l p r b.none a negative (at_place (λ t. limits false y t ≡ true → Le l (limit_of y p t)) all k r s.known.least at negative))));
     })
@@ -312,7 +306,7 @@ from_upper y rs p b n (inr s) =
       positive = s.known.sized;
       is = refl;
       holds = rejoined (At q) y rs (free_kept y u.slack u.size rs p b)
-        (with_kept y rs q b.ascending (λ k r at a.
+          (with_kept y rs q b.ascending (λ k r at a.
           ⊎_elim (λ positive. under y u p r b.none a positive (at_place (λ t. limits true y t ≡ true → Le u (limit_of y p t)) all k r s.known.least at positive))
           (λ negative. absurd (not_both (has_negative y r) negative (at_place (λ t. limits false y t ≡ false) all k r n.none at)))));
     })
@@ -327,7 +321,7 @@ from_upper y rs p b n (inl s) =
       positive = omega arith;
       is = refl;
       holds = rejoined (At q) y rs (free_kept y (pos 0) 1 rs p b)
-        (with_kept y rs q b.ascending (λ k r at a.
+          (with_kept y rs q b.ascending (λ k r at a.
           ⊎_elim (λ positive. absurd (not_both (has_positive y r) positive (at_place (λ t. limits true y t ≡ false) all k r s.none at)))
           (λ negative. absurd (not_both (has_negative y r) negative (at_place (λ t. limits false y t ≡ false) all k r n.none at)))));
     })

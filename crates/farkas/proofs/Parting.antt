@@ -1,5 +1,5 @@
 -- One more inequality in the parts without and with a variable.
-use Rattle.std.proofs.Common.{◌≡◌, refl, sym, ap, ◌∙◌, List, [], ◌∷◌, ◌++◌, Bool, true, false}
+use Rattle.std.proofs.Common.{◌≡◌, refl, ap, ◌∙◌, List, [], ◌∷◌, ◌++◌, Bool, true, false}
 use Rattle.std.specs.Prelude.{if◌then◌else◌}
 use Rattle.linear_rows.specs.declared.rows.Var.{Var}
 use Rattle.farkas.specs.Derivations.{Derivation}

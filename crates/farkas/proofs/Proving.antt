@@ -1,11 +1,11 @@
 -- The multipliers of a row that is left prove the tested row, or that no point meets the given rows.
-use Rattle.std.proofs.Common.{◌≡◌, ◌≢◌, refl, sym, ap, ◌∙◌, subst, ℕ, zero, suc, ◌+◌, ◌*◌, ◌<◌, ◌≤◌, ℤ, pos, negsuc, neg_ℤ, ◌+ℤ◌, ◌*ℤ◌, ◌≤ℤ◌, ◌<ℤ◌, List, [], ◌∷◌, Bool, true, false, inl, inr, arith}
+use Rattle.std.proofs.Common.{◌≡◌, refl, sym, ap, ◌∙◌, subst, ℕ, ◌*◌, ◌<◌, ℤ, pos, negsuc, neg_ℤ, ◌+ℤ◌, ◌*ℤ◌, ◌≤ℤ◌, ◌<ℤ◌, List, [], ◌∷◌, Bool, true, false, inl, arith}
 use Rattle.std.specs.Prelude.{if◌then◌else◌, ◌&&◌, int_lt, unsigned_abs}
 use Rattle.std.proofs.lemmas.Int.{ints}
 use Rattle.std.proofs.Math.Nat.{mul-pos}
 use Rattle.std.proofs.Math.IntN.{zero-*ℤ, *ℤ-zero, *ℤ_comm}
 use Rattle.std.specs.declared.cmp.Ordering.{Ordering}
-use Rattle.std.specs.declared.cmp.Ordering.TheVariants.{Less, Equal, Greater}
+use Rattle.std.specs.declared.cmp.Ordering.TheVariants.{Less}
 use Rattle.std.specs.Ordering.{is_eq, int_eq}
 use Rattle.linear_rows.specs.declared.rows.Var.{Var}
 use Rattle.linear_rows.specs.declared.rows.RowTerm.{RowTerm}
@@ -13,7 +13,7 @@ use Rattle.linear_rows.specs.Variables.{var_cmp}
 use Rattle.linear_rows.specs.Rows.{Inequality, Valuation, sum_at}
 use Rattle.linear_rows.specs.Terms.{IsCollected, Follows, IsAscending, HasNoZero, scaled_terms}
 use Rattle.linear_rows.proofs.VariableOrder.{same_var, equal_itself, greater_less}
-use Rattle.linear_rows.proofs.Integers.{mul_assoc, neg-mul, mul-neg}
+use Rattle.linear_rows.proofs.Integers.{neg-mul, mul-neg}
 use Rattle.linear_rows.proofs.TermLists.{by_order, follows_before, IsAscending-scaled, is_zero_of}
 use Rattle.linear_rows.proofs.Values.{sum_at-scaled}
 use Rattle.linear_rows.proofs.Rounding.{mul_monotone}
@@ -82,8 +82,8 @@ same_terms (x ∷ xs) (y ∷ ys) ax nx ay ny e =
     let first : sum_at (unit x.var) (y ∷ ys) ≡ y.factor = ap (λ (v : Var). sum_at (unit v) (y ∷ ys)) var ∙ unit_first y ys ay.0 in
     let factor : x.factor ≡ y.factor = sym (unit_first x xs ax.0) ∙ e (unit x.var) ∙ first in
     let rest = same_terms xs ys ax.1 nx.1 ay.1 ny.1 (λ v.
-      let whole = e v in
-      let k : x.factor *ℤ v x.var ≡ y.factor *ℤ v y.var = ap (λ (z : ℤ). z *ℤ v x.var) factor ∙ ap (λ (w : Var). y.factor *ℤ v w) var in omega (arith, ints)) in
+    let whole = e v in
+    let k : x.factor *ℤ v x.var ≡ y.factor *ℤ v y.var = ap (λ (z : ℤ). z *ℤ v x.var) factor ∙ ap (λ (w : Var). y.factor *ℤ v w) var in omega (arith, ints)) in
     λ i. record { var = var i; factor = factor i } ∷ rest i)
     (λ greater.
     let less : var_cmp y.var x.var ≡ Less = greater_less x.var y.var greater in
@@ -121,13 +121,16 @@ absurd_proves rows tested r h e =
     let negative = lt_of r.constant (pos 0) parts.1 in
     record {
       named = h.named;
-      shown = (same_terms (combined_terms rows r.support.multipliers) [] (combined_is_collected rows r.support.multipliers).ascending (combined_is_collected rows r.support.multipliers).nonzero tt tt
-        (λ v. combined_side v rows r.support.multipliers ∙ sym (h.left v)
-          ∙ ap (λ (z : ℤ). pos r.support.divisor *ℤ z) (left_bare v (sum_at v tested) r terms ∙ ap (λ (z : ℤ). z *ℤ sum_at v tested) last ∙ zero-*ℤ (sum_at v tested))
-          ∙ *ℤ-zero (pos r.support.divisor)),
+      shown = (
+        same_terms (combined_terms rows r.support.multipliers) [] (combined_is_collected rows r.support.multipliers).ascending (combined_is_collected rows r.support.multipliers).nonzero tt tt
+            (λ v. combined_side v rows r.support.multipliers ∙ sym (h.left v)
+            ∙ ap (λ (z : ℤ). pos r.support.divisor *ℤ z) (left_bare v (sum_at v tested) r terms ∙ ap (λ (z : ℤ). z *ℤ sum_at v tested) last ∙ zero-*ℤ (sum_at v tested))
+            ∙ *ℤ-zero (pos r.support.divisor)),
         (let f = combined_number rows r.support.multipliers in let g = h.constant in
-         let k = negative_times r.support.divisor r.constant h.positive negative in omega (arith, ints)));
+            let k = negative_times r.support.divisor r.constant h.positive negative in omega (arith, ints)),
+      );
     }
+
 pub abs_above : (z : ℤ) → pos 0 <ℤ z → z ≡ pos (unsigned_abs z)
 abs_above (pos n) h = refl
 abs_above (negsuc n) h = absurd (omega (arith, ints))
@@ -168,16 +171,18 @@ upper_proves rows row u collected h bounds e =
     let one : u.constant *ℤ pos 1 ≡ u.constant = *ℤ_comm u.constant (pos 1) ∙ one-mul u.constant in
     let times = mul_monotone u.support.divisor u.constant (row.constant *ℤ pos a) (omega (arith, ints)) in
     let turned : pos u.support.divisor *ℤ (row.constant *ℤ pos a) ≡ pos (u.support.divisor * a) *ℤ row.constant =
-      ap (λ (z : ℤ). pos u.support.divisor *ℤ z) (*ℤ_comm row.constant (pos a)) ∙ together u.support.divisor a row.constant in
+    ap (λ (z : ℤ). pos u.support.divisor *ℤ z) (*ℤ_comm row.constant (pos a)) ∙ together u.support.divisor a row.constant in
     record {
       positive = positive;
       named = h.named;
-      shown = inl (same_terms (combined_terms rows u.support.multipliers) (scaled_terms (pos (u.support.divisor * a)) row.terms) sum.ascending sum.nonzero
-        (IsAscending-scaled (pos (u.support.divisor * a)) row.terms collected.ascending) (HasNoZero-scaled (u.support.divisor * a) row.terms positive collected.nonzero)
-        (λ v. combined_side v rows u.support.multipliers ∙ sym (h.left v)
-          ∙ ap (λ (z : ℤ). pos u.support.divisor *ℤ z) (left_bare v (sum_at v row.terms) u terms ∙ ap (λ (z : ℤ). z *ℤ sum_at v row.terms) last)
-          ∙ together u.support.divisor a (sum_at v row.terms) ∙ sym (sum_at-scaled v (pos (u.support.divisor * a)) row.terms)),
-        (let f = combined_number rows u.support.multipliers in let g = h.constant in omega (arith, ints)));
+      shown = inl (
+        same_terms (combined_terms rows u.support.multipliers) (scaled_terms (pos (u.support.divisor * a)) row.terms) sum.ascending sum.nonzero
+            (IsAscending-scaled (pos (u.support.divisor * a)) row.terms collected.ascending) (HasNoZero-scaled (u.support.divisor * a) row.terms positive collected.nonzero)
+            (λ v. combined_side v rows u.support.multipliers ∙ sym (h.left v)
+            ∙ ap (λ (z : ℤ). pos u.support.divisor *ℤ z) (left_bare v (sum_at v row.terms) u terms ∙ ap (λ (z : ℤ). z *ℤ sum_at v row.terms) last)
+            ∙ together u.support.divisor a (sum_at v row.terms) ∙ sym (sum_at-scaled v (pos (u.support.divisor * a)) row.terms)),
+        (let f = combined_number rows u.support.multipliers in let g = h.constant in omega (arith, ints)),
+      );
     }
 
 opposite : (a b : ℕ) (z : ℤ) → (pos b *ℤ (pos a *ℤ z)) +ℤ (pos a *ℤ (neg_ℤ (pos b) *ℤ z)) ≡ pos 0
@@ -204,19 +209,23 @@ bounds_prove rows tested u l hu hl bu bl e =
     let number : ℤ = (pos b *ℤ u.constant) +ℤ (pos a *ℤ l.constant) in
     let total_number = support_combined rows constant_of b a 1 u.support l.support u.constant l.constant number hu.positive hl.positive one hu.constant hl.constant (one-mul number) in
     let negative : number <ℤ pos 0 =
-      (let f = lt_of ((u.constant *ℤ pos b) +ℤ (l.constant *ℤ pos a)) (pos 0) e in let g = *ℤ_comm u.constant (pos b) in let k = *ℤ_comm l.constant (pos a) in omega (arith, ints)) in
-    let sum = combined_is_collected rows s.multipliers in
-    (positive, record {
-      named = support_named rows b a 1 u.support l.support hu.named hl.named;
-      shown = (same_terms (combined_terms rows s.multipliers) [] sum.ascending sum.nonzero tt tt
-        (λ v.
-          let z : ℤ = sum_at v tested in
-          let fu : left_at v z u ≡ pos a *ℤ z = left_bare v z u (bare u.terms pu.0) ∙ ap (λ (x : ℤ). x *ℤ z) lu in
-          let fl : left_at v z l ≡ neg_ℤ (pos b) *ℤ z = left_bare v z l (bare l.terms pl.0) ∙ ap (λ (x : ℤ). x *ℤ z) ll in
-          let whole : pos 1 *ℤ pos 0 ≡ (pos b *ℤ left_at v z u) +ℤ (pos a *ℤ left_at v z l) =
-            sym (opposite a b z) ∙ ap (λ (x : ℤ). (pos b *ℤ x) +ℤ (pos a *ℤ (neg_ℤ (pos b) *ℤ z))) (sym fu) ∙ ap (λ (x : ℤ). (pos b *ℤ left_at v z u) +ℤ (pos a *ℤ x)) (sym fl) in
-          combined_side v rows s.multipliers
-          ∙ sym (support_combined rows (side_at v) b a 1 u.support l.support (left_at v z u) (left_at v z l) (pos 0) hu.positive hl.positive one (hu.left v) (hl.left v) whole)
-          ∙ *ℤ-zero (pos s.divisor)),
-        (let f = combined_number rows s.multipliers in let g = negative_times s.divisor number positive negative in omega (arith, ints)));
-    })
+    (let f = lt_of ((u.constant *ℤ pos b) +ℤ (l.constant *ℤ pos a)) (pos 0) e in let g = *ℤ_comm u.constant (pos b) in let k = *ℤ_comm l.constant (pos a) in omega (arith, ints)) in
+    let sum = combined_is_collected rows s.multipliers in (
+      positive,
+      record {
+        named = support_named rows b a 1 u.support l.support hu.named hl.named;
+        shown = (
+          same_terms (combined_terms rows s.multipliers) [] sum.ascending sum.nonzero tt tt
+              (λ v.
+              let z : ℤ = sum_at v tested in
+              let fu : left_at v z u ≡ pos a *ℤ z = left_bare v z u (bare u.terms pu.0) ∙ ap (λ (x : ℤ). x *ℤ z) lu in
+              let fl : left_at v z l ≡ neg_ℤ (pos b) *ℤ z = left_bare v z l (bare l.terms pl.0) ∙ ap (λ (x : ℤ). x *ℤ z) ll in
+              let whole : pos 1 *ℤ pos 0 ≡ (pos b *ℤ left_at v z u) +ℤ (pos a *ℤ left_at v z l) =
+              sym (opposite a b z) ∙ ap (λ (x : ℤ). (pos b *ℤ x) +ℤ (pos a *ℤ (neg_ℤ (pos b) *ℤ z))) (sym fu) ∙ ap (λ (x : ℤ). (pos b *ℤ left_at v z u) +ℤ (pos a *ℤ x)) (sym fl) in
+              combined_side v rows s.multipliers
+              ∙ sym (support_combined rows (side_at v) b a 1 u.support l.support (left_at v z u) (left_at v z l) (pos 0) hu.positive hl.positive one (hu.left v) (hl.left v) whole)
+              ∙ *ℤ-zero (pos s.divisor)),
+          (let f = combined_number rows s.multipliers in let g = negative_times s.divisor number positive negative in omega (arith, ints)),
+        );
+      },
+    )

@@ -1,33 +1,24 @@
 -- A point with one more number meets the inequalities before a step where the point met those after it.
-use Rattle.std.proofs.Common.{◌≡◌, ◌≢◌, refl, sym, ap, ◌∙◌, subst, ℕ, zero, suc, ◌+◌, ◌*◌, ◌<◌, ◌≤◌, max, ℤ, pos, negsuc, neg_ℤ, ◌+ℤ◌, ◌*ℤ◌, ◌≤ℤ◌, ◌<ℤ◌, List, [], ◌∷◌, ◌++◌, length, ◌⊎◌, inl, inr, ⊎_elim, Bool, true, false, Option, Some, None, arith}
-use Rattle.std.specs.Prelude.{if◌then◌else◌, ◌&&◌, ◌||◌, ◌-ℤ◌, int_lt, int_le, unsigned_abs}
+use Rattle.std.proofs.Common.{◌≡◌, refl, sym, ap, ◌∙◌, subst, ℕ, ℤ, pos, neg_ℤ, ◌+ℤ◌, ◌*ℤ◌, ◌≤ℤ◌, List, [], ◌∷◌, Bool, true, false, arith}
+use Rattle.std.specs.Prelude.{if◌then◌else◌, ◌-ℤ◌}
 use Rattle.std.proofs.lemmas.Int.{ints}
 use Rattle.std.proofs.Math.IntN.{zero-*ℤ, *ℤ-zero, *ℤ_comm}
-use Rattle.std.specs.Int.{◌∣◌}
-use Rattle.std.specs.Ordering.{is_eq, int_eq}
+use Rattle.std.specs.Ordering.{is_eq}
 use Rattle.std.specs.declared.cmp.Ordering.{Ordering}
 use Rattle.std.specs.declared.cmp.Ordering.TheVariants.{Less, Equal, Greater}
 use Rattle.linear_rows.specs.declared.rows.Var.{Var}
 use Rattle.linear_rows.specs.declared.rows.RowTerm.{RowTerm}
 use Rattle.linear_rows.specs.Variables.{var_cmp}
 use Rattle.linear_rows.specs.Rows.{Valuation, sum_at}
-use Rattle.linear_rows.specs.Terms.{Follows, IsAscending, factor_of, is_zero}
-use Rattle.linear_rows.specs.NormalForm.{floor}
+use Rattle.linear_rows.specs.Terms.{Follows, IsAscending, factor_of}
 use Rattle.linear_rows.proofs.VariableOrder.{same_var, equal_itself, greater_less, less_greater}
-use Rattle.linear_rows.proofs.TermLists.{by_order, is_zero_of, follows_before}
-use Rattle.linear_rows.proofs.Integers.{mul-add, add-mul, mul_assoc, mul-neg, neg-mul}
-use Rattle.linear_rows.proofs.Rounding.{mul_monotone}
+use Rattle.linear_rows.proofs.TermLists.{by_order, follows_before}
+use Rattle.linear_rows.proofs.Integers.{mul-add, mul_assoc, mul-neg}
 use Rattle.farkas.specs.declared.placing.Placed.{Placed}
-use Rattle.farkas.specs.declared.placing.Limit.{Limit}
 use Rattle.farkas.specs.Points.{number_of, IsAbsent}
-use Rattle.farkas.specs.Derivations.{Derivation, left_at, HoldsAt, size_of}
-use Rattle.farkas.specs.Steps.{mentions, has_positive, has_negative}
-use Rattle.farkas.specs.Placing.{slack_from, slack_of, limit_of, is_less, lesser, limits, least_limit, scaled_numbers, extended}
-use Rattle.farkas.proofs.Soundness.{cancel, one-mul}
-use Rattle.farkas.proofs.Proving.{lt_of, ge_of, abs_above, abs_below, size_above, size_below}
-use Rattle.farkas.proofs.Rings.{regroup, together}
-use Rattle.farkas.proofs.Following.{Each}
-use Rattle.farkas.proofs.Agreeing.{room, Agree, AgreeAt}
+use Rattle.farkas.specs.Derivations.{Derivation, left_at, HoldsAt}
+use Rattle.farkas.specs.Placing.{slack_from, slack_of, scaled_numbers, extended}
+use Rattle.farkas.proofs.Agreeing.{room}
 
 -- the numbers of a point
 abbrev pub numbers_at : Placed → Valuation
@@ -56,7 +47,7 @@ number-scaled m (v ∷ vs) [] x = sym (*ℤ-zero m)
 number-scaled m (v ∷ vs) (n ∷ ns) x = either (is_eq (var_cmp x v)) (number-scaled m vs ns x)
   where
     either : (b : Bool) → number_of vs (scaled_numbers m ns) x ≡ m *ℤ number_of vs ns x →
-      (if b then m *ℤ n else number_of vs (scaled_numbers m ns) x) ≡ m *ℤ (if b then n else number_of vs ns x)
+        (if b then m *ℤ n else number_of vs (scaled_numbers m ns) x) ≡ m *ℤ (if b then n else number_of vs ns x)
     either true e = refl
     either false e = e
 
@@ -106,25 +97,25 @@ sum-spread y n m v [] h k = let e = zero-*ℤ n in let f = *ℤ-zero m in omega 
 sum-spread y n m v (t ∷ ts) h k =
     by_order y t.var
     (λ less.
-      let other = sum-behind y n m v (t ∷ ts) (less, follows_before y t.var ts less k.0) in
-      let factor : factor_of y (t ∷ ts) *ℤ n ≡ pos 0 *ℤ n = ap (λ (z : ℤ). z *ℤ n) (factor_behind y (t ∷ ts) (less, follows_before y t.var ts less k.0)) in
-      let none = zero-*ℤ n in omega (arith, ints))
+    let other = sum-behind y n m v (t ∷ ts) (less, follows_before y t.var ts less k.0) in
+    let factor : factor_of y (t ∷ ts) *ℤ n ≡ pos 0 *ℤ n = ap (λ (z : ℤ). z *ℤ n) (factor_behind y (t ∷ ts) (less, follows_before y t.var ts less k.0)) in
+    let none = zero-*ℤ n in omega (arith, ints))
     (λ equal.
-      let same = same_var y t.var equal in
-      let first : t.factor *ℤ spread y n m v t.var ≡ t.factor *ℤ n =
-        ap (λ (z : ℤ). t.factor *ℤ z) (spread_at y n m v t.var Equal (ap (λ (w : Var). var_cmp w y) (sym same) ∙ equal_itself y)) in
-      let rest = sum-behind y n m v ts (subst (λ (w : Var). Follows w ts) (sym same) k.0) in
-      let factor : factor_of y (t ∷ ts) *ℤ n ≡ t.factor *ℤ n = ap (λ (o : Ordering). (if is_eq o then t.factor else factor_of y ts) *ℤ n) equal in
-      let gone : t.factor *ℤ v t.var ≡ pos 0 = ap (λ (w : Var). t.factor *ℤ v w) (sym same) ∙ ap (λ (z : ℤ). t.factor *ℤ z) h ∙ *ℤ-zero t.factor in
-      let whole : m *ℤ ((t.factor *ℤ v t.var) +ℤ sum_at v ts) ≡ m *ℤ sum_at v ts = ap (λ (z : ℤ). m *ℤ z) (omega (arith, ints)) in
-      omega (arith, ints))
+    let same = same_var y t.var equal in
+    let first : t.factor *ℤ spread y n m v t.var ≡ t.factor *ℤ n =
+    ap (λ (z : ℤ). t.factor *ℤ z) (spread_at y n m v t.var Equal (ap (λ (w : Var). var_cmp w y) (sym same) ∙ equal_itself y)) in
+    let rest = sum-behind y n m v ts (subst (λ (w : Var). Follows w ts) (sym same) k.0) in
+    let factor : factor_of y (t ∷ ts) *ℤ n ≡ t.factor *ℤ n = ap (λ (o : Ordering). (if is_eq o then t.factor else factor_of y ts) *ℤ n) equal in
+    let gone : t.factor *ℤ v t.var ≡ pos 0 = ap (λ (w : Var). t.factor *ℤ v w) (sym same) ∙ ap (λ (z : ℤ). t.factor *ℤ z) h ∙ *ℤ-zero t.factor in
+    let whole : m *ℤ ((t.factor *ℤ v t.var) +ℤ sum_at v ts) ≡ m *ℤ sum_at v ts = ap (λ (z : ℤ). m *ℤ z) (omega (arith, ints)) in
+    omega (arith, ints))
     (λ greater.
-      let first : t.factor *ℤ spread y n m v t.var ≡ t.factor *ℤ (m *ℤ v t.var) = ap (λ (z : ℤ). t.factor *ℤ z) (spread_at y n m v t.var Less (greater_less y t.var greater)) in
-      let turned = swap t.factor m (v t.var) in
-      let rest = sum-spread y n m v ts h k.1 in
-      let factor : factor_of y (t ∷ ts) *ℤ n ≡ factor_of y ts *ℤ n = ap (λ (o : Ordering). (if is_eq o then t.factor else factor_of y ts) *ℤ n) greater in
-      let whole = mul-add m (t.factor *ℤ v t.var) (sum_at v ts) in
-      omega (arith, ints))
+    let first : t.factor *ℤ spread y n m v t.var ≡ t.factor *ℤ (m *ℤ v t.var) = ap (λ (z : ℤ). t.factor *ℤ z) (spread_at y n m v t.var Less (greater_less y t.var greater)) in
+    let turned = swap t.factor m (v t.var) in
+    let rest = sum-spread y n m v ts h k.1 in
+    let factor : factor_of y (t ∷ ts) *ℤ n ≡ factor_of y ts *ℤ n = ap (λ (o : Ordering). (if is_eq o then t.factor else factor_of y ts) *ℤ n) greater in
+    let whole = mul-add m (t.factor *ℤ v t.var) (sum_at v ts) in
+    omega (arith, ints))
   where
     swap : (a b c : ℤ) → a *ℤ (b *ℤ c) ≡ b *ℤ (a *ℤ c)
     swap a b c = sym (mul_assoc a b c) ∙ ap (λ (z : ℤ). z *ℤ c) (*ℤ_comm a b) ∙ mul_assoc b a c
@@ -144,5 +135,6 @@ room_extended y n m p r h k =
   where
     swap : (a b c : ℤ) → a *ℤ (b *ℤ c) ≡ b *ℤ (a *ℤ c)
     swap a b c = sym (mul_assoc a b c) ∙ ap (λ (z : ℤ). z *ℤ c) (*ℤ_comm a b) ∙ mul_assoc b a c
+
     minus_times : (k x y : ℤ) → k *ℤ (x -ℤ y) ≡ (k *ℤ x) -ℤ (k *ℤ y)
     minus_times k x y = let e = mul-add k x (neg_ℤ y) in let f = mul-neg k y in omega (arith, ints)

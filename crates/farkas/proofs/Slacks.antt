@@ -1,5 +1,5 @@
 -- What an inequality leaves at a point, as it is made.
-use Rattle.std.proofs.Common.{◌≡◌, refl, sym, ap, ◌∙◌, subst, ℕ, suc, ◌+◌, ◌<◌, ℤ, pos, ◌+ℤ◌, ◌*ℤ◌, List, [], ◌∷◌, length, drop, get_or, drop-cons, Bool, true, false, Option, Some, None, arith}
+use Rattle.std.proofs.Common.{◌≡◌, refl, sym, ap, ◌∙◌, subst, ℕ, suc, ◌+◌, ◌<◌, ℤ, ◌*ℤ◌, List, ◌∷◌, length, drop, get_or, drop-cons, Bool, true, false, Option, Some, None, arith}
 use Rattle.std.specs.Prelude.{if◌then◌else◌, ◌&&◌, ◌-ℤ◌, MatchOption}
 use Rattle.linear_rows.specs.declared.rows.RowTerm.{RowTerm}
 use Rattle.linear_rows.specs.Forms.{is_small, small}
@@ -53,15 +53,15 @@ slack_ends i ts d p left left' f n h l e m k =
     let product : ℤ = (get_or ts i d).factor *ℤ number_of p.vars p.numbers (get_or ts i d).var in
     let product_is : f *ℤ n ≡ product = ap (λ (z : ℤ). z *ℤ n) m ∙ ap (λ (z : ℤ). (get_or ts i d).factor *ℤ z) e in
     let fits : (is_small product && is_small (left -ℤ product)) ≡ false =
-      sym (ap (λ (z : ℤ). is_small (f *ℤ n) && is_small (z -ℤ (f *ℤ n))) l ∙ ap (λ (z : ℤ). is_small z && is_small (left -ℤ z)) product_is) ∙ k in
+    sym (ap (λ (z : ℤ). is_small (f *ℤ n) && is_small (z -ℤ (f *ℤ n))) l ∙ ap (λ (z : ℤ). is_small z && is_small (left -ℤ z)) product_is) ∙ k in
     ap (slack_fits_from left p) first ∙ ap (λ (b : Bool). b && slack_fits_from (left -ℤ product) p (drop (suc i) ts)) fits
 
 pub whole_too_large : (p : Placed) (r : Derivation) (a b : ℤ) (t : Option ℤ) → a ≡ r.constant → b ≡ p.divisor → t ≡ small (a *ℤ b) → t ≡ None → slack_fits p r ≡ false
 whole_too_large p r a b t e f g h =
     let k : is_small (r.constant *ℤ p.divisor) ≡ false =
-      sym (ap (λ (z : ℤ). is_small (z *ℤ b)) e ∙ ap (λ (z : ℤ). is_small (r.constant *ℤ z)) f) ∙ none_if {A = ℤ} (is_small (a *ℤ b)) (a *ℤ b) t g h in
+    sym (ap (λ (z : ℤ). is_small (z *ℤ b)) e ∙ ap (λ (z : ℤ). is_small (r.constant *ℤ z)) f) ∙ none_if {A = ℤ} (is_small (a *ℤ b)) (a *ℤ b) t g h in
     ap (λ (c : Bool). c && is_small (r.last *ℤ p.last) && is_small ((r.constant *ℤ p.divisor) -ℤ (r.last *ℤ p.last))
-      && slack_fits_from ((r.constant *ℤ p.divisor) -ℤ (r.last *ℤ p.last)) p r.terms) k
+    && slack_fits_from ((r.constant *ℤ p.divisor) -ℤ (r.last *ℤ p.last)) p r.terms) k
 
 assoc_false : (a b c : Bool) → (b && c) ≡ false → ((a && b) && c) ≡ false
 assoc_false true b c e = e
@@ -75,7 +75,7 @@ pub rest_too_large : (p : Placed) (r : Derivation) (whole l z : ℤ) → whole �
 rest_too_large p r whole l z e f g h =
     let product : l *ℤ z ≡ r.last *ℤ p.last = ap (λ (x : ℤ). x *ℤ z) f ∙ ap (λ (x : ℤ). r.last *ℤ x) g in
     let k : (is_small (r.last *ℤ p.last) && is_small ((r.constant *ℤ p.divisor) -ℤ (r.last *ℤ p.last))) ≡ false =
-      sym (ap (λ (x : ℤ). is_small (l *ℤ z) && is_small (x -ℤ (l *ℤ z))) e ∙ ap (λ (x : ℤ). is_small x && is_small ((r.constant *ℤ p.divisor) -ℤ x)) product) ∙ h in
+    sym (ap (λ (x : ℤ). is_small (l *ℤ z) && is_small (x -ℤ (l *ℤ z))) e ∙ ap (λ (x : ℤ). is_small x && is_small ((r.constant *ℤ p.divisor) -ℤ x)) product) ∙ h in
     ap (λ (c : Bool). c && slack_fits_from ((r.constant *ℤ p.divisor) -ℤ (r.last *ℤ p.last)) p r.terms)
     (assoc_false (is_small (r.constant *ℤ p.divisor)) (is_small (r.last *ℤ p.last)) (is_small ((r.constant *ℤ p.divisor) -ℤ (r.last *ℤ p.last))) k)
 

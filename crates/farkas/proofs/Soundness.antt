@@ -1,20 +1,16 @@
 -- Evidence is right at every rational point.
-use Rattle.std.proofs.Common.{◌≡◌, sym, ap, ◌∙◌, subst, ℕ, zero, suc, ◌<◌, ℤ, pos, negsuc, ◌+ℤ◌, ◌*ℤ◌, ◌≤ℤ◌, ◌<ℤ◌, List, [], ◌∷◌, ◌⊎◌, inl, inr, ⊎_elim, arith}
-use Rattle.std.specs.Prelude.{slice_index_or}
+use Rattle.std.proofs.Common.{◌≡◌, ap, ◌∙◌, ℕ, zero, suc, ◌<◌, ℤ, pos, negsuc, ◌+ℤ◌, ◌*ℤ◌, ◌≤ℤ◌, ◌<ℤ◌, List, [], ◌∷◌, ⊎_elim, arith}
 use Rattle.std.proofs.lemmas.Int.{ints, by_lt_z}
 use Rattle.std.proofs.Math.IntN.{zero-*ℤ, *ℤ_comm}
-use Rattle.linear_rows.specs.declared.rows.RowTerm.{RowTerm}
 use Rattle.linear_rows.specs.Rows.{Inequality, Valuation, sum_at}
-use Rattle.linear_rows.specs.Terms.{scaled_terms}
-use Rattle.linear_rows.specs.Forms.{weighted_terms}
 use Rattle.linear_rows.proofs.Integers.{add-mul, mul_assoc}
 use Rattle.linear_rows.proofs.Values.{sum_at-scaled}
 use Rattle.linear_rows.proofs.Combining.{sum_at-weighted}
 use Rattle.linear_rows.proofs.Rounding.{mul_monotone}
 use Rattle.farkas.specs.declared.answers.Multiplier.{Multiplier}
 use Rattle.farkas.specs.declared.answers.RationalPoint.{RationalPoint}
-use Rattle.farkas.specs.Points.{Meets, MeetsEach, Breaks, Entail, AreEmpty}
-use Rattle.farkas.specs.Evidence.{nothing, row_at, combined_terms, combined_constant, Shows, ShowsEmpty, IsProof, IsEmptyProof, IsRefutation, IsWitness}
+use Rattle.farkas.specs.Points.{Meets, MeetsEach, Entail, AreEmpty}
+use Rattle.farkas.specs.Evidence.{row_at, combined_terms, combined_constant, Shows, ShowsEmpty, IsProof, IsEmptyProof, IsRefutation, IsWitness}
 
 pub one-mul : (a : ℤ) → pos 1 *ℤ a ≡ a
 one-mul a = omega (arith, ints)

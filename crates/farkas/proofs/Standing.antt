@@ -1,8 +1,8 @@
 -- The point in lowest terms, and the point that is raised through all steps of a run.
-use Rattle.std.proofs.Common.{◌≡◌, ◌≢◌, refl, sym, ap, ◌∙◌, subst, ℕ, zero, suc, ◌+◌, ◌*◌, ◌<◌, ◌≤◌, max, ℤ, pos, negsuc, neg_ℤ, ◌+ℤ◌, ◌*ℤ◌, ◌≤ℤ◌, ◌<ℤ◌, List, [], ◌∷◌, ◌++◌, length, Bool, true, false, arith}
+use Rattle.std.proofs.Common.{◌≡◌, refl, sym, ap, ◌∙◌, subst, ℕ, zero, suc, ◌<◌, max, ℤ, pos, neg_ℤ, ◌*ℤ◌, ◌<ℤ◌, List, [], ◌∷◌, length, Bool, true, false, arith}
 use Rattle.std.specs.Prelude.{if◌then◌else◌, ◌-ℤ◌, unsigned_abs}
 use Rattle.std.proofs.lemmas.Int.{ints, by_lt_z}
-use Rattle.std.proofs.Math.IntN.{zero-*ℤ, *ℤ-zero, *ℤ_comm}
+use Rattle.std.proofs.Math.IntN.{*ℤ-zero, *ℤ_comm}
 use Rattle.std.proofs.Math.Nat.{one-dvd}
 use Rattle.std.specs.Int.{◌∣◌}
 use Rattle.std.proofs.lemmas.Nat.Gcd.{dvd_trans, dvd_refl}
@@ -23,12 +23,11 @@ use Rattle.farkas.specs.Derivations.{Derivation, left_at, size_of, combination, 
 use Rattle.farkas.specs.Steps.{without, with_var, matches, combined, candidates, eliminated, run}
 use Rattle.farkas.specs.Placing.{scaled_numbers, extended, common_number, point_divisor, divided_numbers, lowest_point, chosen, least_limit, with_number, levels_of, raised}
 use Rattle.std.specs.Prelude.{None}
-use Rattle.farkas.proofs.Soundness.{cancel, one-mul, less_times, at_most_times}
+use Rattle.farkas.proofs.Soundness.{cancel, less_times}
 use Rattle.farkas.proofs.Summing.{divided_collected}
-use Rattle.farkas.proofs.Rings.{cancel_same}
 use Rattle.farkas.proofs.Following.{Each, Each-front, Each-eliminated}
-use Rattle.farkas.proofs.Reaching.{numbers_at, room_at, holds_room, room_holds, same_sum, absent_zero}
-use Rattle.farkas.proofs.Meeting.{At, Before, Chosen, chosen_meets, each_holds, matches_agree, mapped}
+use Rattle.farkas.proofs.Reaching.{numbers_at, room_at, holds_room, room_holds, absent_zero}
+use Rattle.farkas.proofs.Meeting.{At, Before, chosen_meets, each_holds, matches_agree, mapped}
 
 -- ---- lowest terms
 
@@ -75,7 +74,7 @@ divided_number d (v ∷ vs) [] x p h = *ℤ-zero (pos d)
 divided_number d (v ∷ vs) (n ∷ ns) x p h = either (is_eq (var_cmp x v)) (divided_number d vs ns x p h.1) (floor_exact n d p h.0)
   where
     either : (b : Bool) → pos d *ℤ number_of vs (divided_numbers d ns) x ≡ number_of vs ns x → pos d *ℤ floor n d ≡ n →
-      pos d *ℤ (if b then floor n d else number_of vs (divided_numbers d ns) x) ≡ (if b then n else number_of vs ns x)
+        pos d *ℤ (if b then floor n d else number_of vs (divided_numbers d ns) x) ≡ (if b then n else number_of vs ns x)
     either true e f = f
     either false e f = e
 
@@ -104,6 +103,7 @@ lowest_room p r =
   where
     swap : (a b c : ℤ) → a *ℤ (b *ℤ c) ≡ b *ℤ (a *ℤ c)
     swap a b c = sym (mul_assoc a b c) ∙ ap (λ (z : ℤ). z *ℤ c) (*ℤ_comm a b) ∙ mul_assoc b a c
+
     minus_times : (k x y : ℤ) → k *ℤ (x -ℤ y) ≡ (k *ℤ x) -ℤ (k *ℤ y)
     minus_times k x y = let e = mul-add k x (neg_ℤ y) in let f = mul-neg k y in omega (arith, ints)
 
@@ -151,9 +151,9 @@ extended_stands y n m vs p h s = record {
 lowest_stands : (vs : List Var) (p : Placed) → Stands vs p → Stands vs (lowest_point p)
 lowest_stands vs p s = record {
   positive =
-    (let d = point_divides p in let e = floor_exact p.divisor (point_divisor p) d.positive d.divisor in let z = *ℤ-zero (pos (point_divisor p)) in
-     let h = s.positive in
-     cancel_less (point_divisor p) (pos 0) (lowest_point p).divisor d.positive (omega (arith, ints)));
+      (let d = point_divides p in let e = floor_exact p.divisor (point_divisor p) d.positive d.divisor in let z = *ℤ-zero (pos (point_divisor p)) in
+      let h = s.positive in
+      cancel_less (point_divisor p) (pos 0) (lowest_point p).divisor d.positive (omega (arith, ints)));
   vars = s.vars;
   numbered = length-divided (point_divisor p) p.numbers ∙ s.numbered;
 }
@@ -172,7 +172,7 @@ lowest_above k p a =
     let e = floor_exact p.divisor g d.positive d.divisor in
     let f = floor_exact p.last g d.positive d.last in
     let t : pos g *ℤ (k *ℤ q.divisor) ≡ k *ℤ p.divisor =
-      sym (mul_assoc (pos g) k q.divisor) ∙ ap (λ (z : ℤ). z *ℤ q.divisor) (*ℤ_comm (pos g) k) ∙ mul_assoc k (pos g) q.divisor ∙ ap (λ (z : ℤ). k *ℤ z) e in
+    sym (mul_assoc (pos g) k q.divisor) ∙ ap (λ (z : ℤ). z *ℤ q.divisor) (*ℤ_comm (pos g) k) ∙ mul_assoc k (pos g) q.divisor ∙ ap (λ (z : ℤ). k *ℤ z) e in
     cancel_less g (k *ℤ q.divisor) q.last d.positive (omega (arith, ints))
 
 -- ---- one step, and all

@@ -3,7 +3,7 @@ use Rattle.std.proofs.Common.{◌≡◌, ◌≢◌, refl, sym, ap, ◌∙◌, su
 use Rattle.std.specs.Int.{w128, ◌∣◌}
 use Rattle.std.proofs.lemmas.Nat.Gcd.{dvd_trans}
 use Rattle.std.proofs.Math.Nat.{one-dvd}
-use Rattle.std.specs.Prelude.{unsigned_abs, if◌then◌else◌, ◌&&◌}
+use Rattle.std.specs.Prelude.{unsigned_abs, ◌&&◌}
 use Rattle.std.proofs.lemmas.Int.{to_z-of_z, ints}
 use Rattle.std.proofs.lemmas.List.{drop_all}
 use Rattle.linear_rows.specs.declared.rows.RowTerm.{RowTerm}
@@ -17,9 +17,6 @@ use Rattle.farkas.specs.declared.weights.Support.{Support}
 use Rattle.farkas.specs.Weights.{supports_fit, combined_support}
 use Rattle.farkas.proofs.Adding.{some_if, none_if}
 use Rattle.farkas.specs.Derivations.{Derivation, sum_stays_small, divisor_of_all, sum_terms, sum_last, sum_constant, sum_divisor, weighted_sum}
-
-
-
 
 pub common_to_z : (last constant : ℤ) (ts : List RowTerm) (i d : ℕ) → FitsSigned w128 last → FitsSigned w128 constant → length ts ≤ i →
     common_divisor d (drop i ts) ≡ common_divisor (gcd (unsigned_abs (to_z w128 (of_z w128 last))) (unsigned_abs (to_z w128 (of_z w128 constant)))) ts →
@@ -64,8 +61,8 @@ pub terms_too_large : (a b : ℕ) (p n : Derivation) (xs ys : List RowTerm) (r :
     sum_stays_small a p b n ≡ false
 terms_too_large a b p n xs ys r e f g h =
     let k : terms_stay_small (pos a) p.terms (pos b) n.terms ≡ false =
-      sym (ap (λ (us : List RowTerm). terms_stay_small (pos a) us (pos b) ys) e ∙ ap (λ (us : List RowTerm). terms_stay_small (pos a) p.terms (pos b) us) f)
-      ∙ none_if {A = List RowTerm} (terms_stay_small (pos a) xs (pos b) ys) (weighted_terms (pos a) xs (pos b) ys) r g h in
+    sym (ap (λ (us : List RowTerm). terms_stay_small (pos a) us (pos b) ys) e ∙ ap (λ (us : List RowTerm). terms_stay_small (pos a) p.terms (pos b) us) f)
+    ∙ none_if {A = List RowTerm} (terms_stay_small (pos a) xs (pos b) ys) (weighted_terms (pos a) xs (pos b) ys) r g h in
     ap (λ (c : Bool). c && constants_stay_small (pos a) p.last (pos b) n.last && constants_stay_small (pos a) p.constant (pos b) n.constant && supports_fit a p.support b n.support (sum_divisor a p b n)) k
 
 pub terms_weighed : (a b : ℕ) (p n : Derivation) (xs ys out : List RowTerm) (r : Option (List RowTerm)) → xs ≡ p.terms → ys ≡ n.terms → r ≡ weighted_terms_within (pos a) xs (pos b) ys → r ≡ Some out →
@@ -94,7 +91,7 @@ sum_made a b p n terms out last constant l c g s t support e f h k m o q r u w =
     let last_is : l ≡ floor (sum_last a p b n) (sum_divisor a p b n) = r ∙ ap (λ (d : ℕ). floor last d) k ∙ ap (λ (z : ℤ). floor z (sum_divisor a p b n)) f in
     let constant_is : c ≡ floor (sum_constant a p b n) (sum_divisor a p b n) = u ∙ ap (λ (d : ℕ). floor constant d) k ∙ ap (λ (z : ℤ). floor z (sum_divisor a p b n)) h in
     let support_is : support ≡ combined_support a p.support b n.support (sum_divisor a p b n) =
-      w ∙ ap (λ (d : ℕ). combined_support a s b t d) k ∙ ap (λ (x : Support). combined_support a x b t (sum_divisor a p b n)) m ∙ ap (λ (x : Support). combined_support a p.support b x (sum_divisor a p b n)) o in
+    w ∙ ap (λ (d : ℕ). combined_support a s b t d) k ∙ ap (λ (x : Support). combined_support a x b t (sum_divisor a p b n)) m ∙ ap (λ (x : Support). combined_support a p.support b x (sum_divisor a p b n)) o in
     λ i. record { terms = terms_are i; last = last_is i; constant = constant_is i; support = support_is i }
 
 divides_max : (g x : ℕ) → g ∣ x → max g 1 ∣ x

@@ -1,5 +1,5 @@
 -- Sums over multiplied rows.
-use Rattle.std.proofs.Common.{◌≡◌, sym, ap, ◌∙◌, subst, ℕ, zero, suc, ◌+◌, ◌*◌, ◌/◌, ◌<◌, ◌≤◌, max, ℤ, pos, ◌+ℤ◌, ◌*ℤ◌, List, [], ◌∷◌, length, refl, arith}
+use Rattle.std.proofs.Common.{◌≡◌, sym, ap, subst, ℕ, zero, suc, ◌+◌, ◌*◌, ◌/◌, ◌<◌, max, ℤ, pos, ◌+ℤ◌, ◌*ℤ◌, List, [], ◌∷◌, length, refl, arith}
 use Rattle.std.specs.Int.{◌∣◌}
 use Rattle.std.proofs.lemmas.Int.{ints}
 use Rattle.std.proofs.Math.IntN.{*ℤ-zero}
@@ -8,7 +8,7 @@ use Rattle.std.proofs.lemmas.Nat.Gcd.{dvd_trans, dvd_refl}
 use Rattle.linear_rows.specs.Rows.{Inequality}
 use Rattle.linear_rows.specs.NormalForm.{gcd}
 use Rattle.linear_rows.proofs.Divisors.{IsGcd-gcd}
-use Rattle.linear_rows.proofs.Integers.{mul-add, add-mul, mul_assoc}
+use Rattle.linear_rows.proofs.Integers.{mul-add, add-mul}
 use Rattle.farkas.specs.declared.answers.Multiplier.{Multiplier}
 use Rattle.farkas.specs.Evidence.{row_at, EachNamed}
 use Rattle.farkas.specs.Weights.{scaled_multipliers, with_multiplier, summed_multipliers, weighted_multipliers, common_factor, divided_multipliers}
@@ -37,7 +37,7 @@ total-with f rows m (x ∷ xs) =
     let g = ap (total f rows) (with_same m x xs same) in
     let k : pos x.factor *ℤ f (row_at rows x.row) ≡ pos x.factor *ℤ f (row_at rows m.row) = ap (λ (n : ℕ). pos x.factor *ℤ f (row_at rows n)) same in
     let s : pos (x.factor + m.factor) *ℤ f (row_at rows m.row) ≡ (pos x.factor *ℤ f (row_at rows m.row)) +ℤ (pos m.factor *ℤ f (row_at rows m.row)) =
-      add-mul (pos x.factor) (pos m.factor) (f (row_at rows m.row)) in
+    add-mul (pos x.factor) (pos m.factor) (f (row_at rows m.row)) in
     omega (arith, ints))
     (λ more. let g = ap (total f rows) (with_new m x xs more) in omega (arith, ints))
 

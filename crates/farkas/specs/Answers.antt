@@ -1,5 +1,5 @@
 -- What the answers promise.
-use Rattle.std.specs.Prelude.{◌≡◌, ℕ, ◌<◌, ℤ, pos, ◌≤ℤ◌, ◌<ℤ◌, List, [], length, ◌⊎◌}
+use Rattle.std.specs.Prelude.{◌≡◌, ℕ, ◌<◌, pos, ◌≤ℤ◌, ◌<ℤ◌, List, [], length, ◌⊎◌}
 use Rattle.linear_rows.specs.Rows.{Inequality}
 use Rattle.farkas.specs.declared.answers.Answer.{Answer}
 use Rattle.farkas.specs.declared.answers.Answer.TheVariants.{Proved, Refuted, Beyond}

@@ -1,6 +1,5 @@
 -- How a run decides whether rows entail a row, or are empty.
-use Rattle.std.specs.Prelude.{◌≡◌, ℕ, ◌+◌, ◌*◌, ◌<◌, ℤ, pos, neg_ℤ, ◌+ℤ◌, ◌-ℤ◌, ◌*ℤ◌, int_lt, int_le, unsigned_abs, List, [], ◌∷◌, ◌++◌, length, Bool, true, false, ◌&&◌, ◌||◌, not, Option, Some, None, option_map, if◌then◌else◌}
-use Rattle.std.specs.declared.cmp.Ordering.{Ordering}
+use Rattle.std.specs.Prelude.{◌≡◌, ℕ, ◌+◌, ◌*◌, ℤ, pos, ◌+ℤ◌, ◌-ℤ◌, ◌*ℤ◌, int_lt, int_le, unsigned_abs, List, [], ◌∷◌, ◌++◌, Bool, true, false, ◌&&◌, ◌||◌, Option, Some, None, option_map, if◌then◌else◌}
 use Rattle.std.specs.Ordering.{match_ordering}
 use Rattle.linear_rows.specs.declared.rows.Var.{Var}
 use Rattle.linear_rows.specs.declared.rows.RowTerm.{RowTerm}
@@ -16,7 +15,6 @@ use Rattle.farkas.specs.declared.answers.Emptiness.{Emptiness}
 use Rattle.farkas.specs.declared.answers.Emptiness.TheVariants as emptiness
 use Rattle.farkas.specs.declared.placing.Placed.{Placed}
 use Rattle.farkas.specs.declared.placing.Limit.{Limit}
-use Rattle.farkas.specs.declared.weights.Support.{Support}
 use Rattle.farkas.specs.Weights.{is_below, combined_support, supports_fit}
 use Rattle.farkas.specs.Derivations.{Derivation, given_from, at_most_last, at_least_last}
 use Rattle.farkas.specs.Steps.{are_same, has_no_terms, run, run_fits}
@@ -95,7 +93,7 @@ start_above_fits k None = is_small (k +ℤ pos 1)
 start_above_fits k (Some l) =
     is_small (k +ℤ pos 1)
     && (if is_negative_sum (last_limit l) (record { slack = k +ℤ pos 1; size = 1 })
-      then is_small (pos 0 -ℤ l.constant) && is_small (pos 0 -ℤ l.last) else true)
+    then is_small (pos 0 -ℤ l.constant) && is_small (pos 0 -ℤ l.last) else true)
 
 -- a point with its numbers, without the last variable
 abbrev pub point_of : Placed → RationalPoint
@@ -112,7 +110,7 @@ by_bounds levels u None = refuted_from levels (last_at u.constant u.last)
 by_bounds levels u (Some l) =
     if is_negative_sum (last_limit u) (last_limit l)
     then Proved (combined_support (unsigned_abs l.last) u.support (unsigned_abs u.last) l.support 1).multipliers
-      (combined_support (unsigned_abs l.last) u.support (unsigned_abs u.last) l.support 1).divisor
+    (combined_support (unsigned_abs l.last) u.support (unsigned_abs u.last) l.support 1).divisor
     else refuted_from levels (last_at u.constant u.last)
 
 abbrev pub by_bounds_fits : List Level → Derivation → Option Derivation → Bool

@@ -1,5 +1,5 @@
 -- One step of the elimination, and the run.
-use Rattle.std.specs.Prelude.{◌≡◌, ℕ, zero, suc, ◌+◌, ◌==◌, nat_le, nat_eq, ℤ, pos, ◌+ℤ◌, List, [], ◌∷◌, ◌++◌, length, Bool, true, false, not, ◌&&◌, ◌||◌, Option, Some, None, option_map, int_lt, int_le, if◌then◌else◌}
+use Rattle.std.specs.Prelude.{ℕ, ◌+◌, ◌==◌, nat_le, pos, ◌+ℤ◌, List, [], ◌∷◌, ◌++◌, length, Bool, true, false, ◌&&◌, ◌||◌, Option, Some, None, option_map, int_lt, int_le, if◌then◌else◌}
 use Rattle.std.specs.Ordering.{is_eq, int_eq}
 use Rattle.linear_rows.specs.declared.rows.Var.{Var}
 use Rattle.linear_rows.specs.declared.rows.RowTerm.{RowTerm}

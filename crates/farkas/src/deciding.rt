@@ -112,11 +112,7 @@ fn start_above(alloc: Global, tested: i128, lower: Option<&Derived>) -> Option<P
 
 /// The answer with the point that is raised from a number of the last variable. None where a number passes
 /// the limit.
-fn refute(
-    alloc: Global,
-    levels: Items<Level>,
-    start: Placed,
-) -> Result<Option<Answer>, AllocError>
+fn refute(alloc: Global, levels: Items<Level>, start: Placed) -> Result<Option<Answer>, AllocError>
     ensures { IfOk result (λ o. MatchOption o (raised_fits levels start ≡ false) (λ a. a ≡ refuted_from levels start)) }
 {
     match raise(alloc, levels, start)? {
@@ -171,15 +167,17 @@ fn prove_by_bounds(
 ) -> Result<Option<Answer>, AllocError>
     ensures { IfOk result (λ o. MatchOption o (supports_fit (unsigned_abs lower.now.last) upper.now.support (unsigned_abs upper.now.last) lower.now.support 1 ≡ false)
         (λ a. a ≡ Proved (combined_support (unsigned_abs lower.now.last) upper.now.support (unsigned_abs upper.now.last) lower.now.support 1).multipliers
-            (combined_support (unsigned_abs lower.now.last) upper.now.support (unsigned_abs upper.now.last) lower.now.support 1).divisor)) }
+        (combined_support (unsigned_abs lower.now.last) upper.now.support (unsigned_abs upper.now.last) lower.now.support 1).divisor)) }
 {
     let a = lower.last_limit().size;
     let b = upper.last_limit().size;
     match upper.support().combine(alloc, a, lower.support(), b, 1)? {
-        Some(Support {
-            multipliers,
-            divisor,
-        }) => Ok(Some(Answer::Proved {
+        Some(
+            Support {
+                multipliers,
+                divisor,
+            },
+        ) => Ok(Some(Answer::Proved {
             multipliers,
             divisor,
         })),

@@ -130,9 +130,10 @@ impl Placed {
     {
         let mut vars = self.vars.as_slice();
         let mut numbers = self.numbers.as_slice();
-        while let (Some((other, rest)), Some((number, others))) =
-            (vars.split_first(), numbers.split_first())
-        {
+        while let (Some((other, rest)), Some((number, others))) = (
+            vars.split_first(),
+            numbers.split_first(),
+        ) {
             if order(var, other) == Ordering::Equal {
                 return *number;
             }
@@ -206,13 +207,7 @@ fn lesser_of(least: Option<Limit>, limit: Limit) -> Limit
     ensures { Some result ≡ lesser least limit }
 {
     match least {
-        Some(least) => {
-            if limit.is_less(least) {
-                limit
-            } else {
-                least
-            }
-        }
+        Some(least) => { if limit.is_less(least) { limit } else { least } }
         None => limit,
     }
 }

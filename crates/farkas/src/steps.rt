@@ -177,7 +177,7 @@ fn combine_one(
     ensures { IfOk result (λ o. MatchOption o
         ((matches_fit var.now (matches_of var.now equality place row.now 0 rows.now) && nat_le (count + length (matches_of var.now equality place row.now 0 rows.now)) 4096) ≡ false)
         (λ n. (n ≡ count + length (matches_of var.now equality place row.now 0 rows.now)) × (n ≤ 4096)
-            × (kept.new.items ≡ with_each kept.old.items (combined var.now (matches_of var.now equality place row.now 0 rows.now))))) }
+        × (kept.new.items ≡ with_each kept.old.items (combined var.now (matches_of var.now equality place row.now 0 rows.now))))) }
 {
     let mut made = count;
     let mut other_place = 0;

@@ -187,7 +187,8 @@ impl Support {
     ) -> Result<Option<Support>, AllocError>
         ensures { IfOk result (λ o. MatchOption o (supports_fit a self.now b other.now g ≡ false) (λ s. s ≡ combined_support a self.now b other.now g)) }
     {
-        let (Some(first), Some(second)) = (product(a, other.divisor), product(b, self.divisor)) else {
+        let (Some(first), Some(second)) = (product(a, other.divisor), product(b, self.divisor))
+        else {
             return Ok(None);
         };
         let mine = self.multipliers.as_slice();

@@ -1,5 +1,4 @@
 use Rattle.std.proofs.Common.{rules, ◌≡◌}
-use Rattle.farkas.specs.Answers.{CarriesEvidence, Have}
 use Rattle.farkas.specs.Deciding.{answer_of_run}
 use Rattle.farkas.proofs.Having.{decides, by_had, by_run, not_had, had_is_proved}
 use Rattle.farkas.proofs.entailment.entails.Goals as goal

@@ -1,8 +1,8 @@
-use Rattle.std.proofs.Common.{rules, ◌≡◌, ◌+◌, ◌≤◌, List, length, sym, ◌∙◌, ap, subst, refl, false, [], arith}
+use Rattle.std.proofs.Common.{rules, ◌≡◌, ◌+◌, List, length, sym, ◌∙◌, ap, false, []}
 use Rattle.std.specs.Prelude.{◌&&◌, nat_le}
 use Rattle.farkas.specs.Derivations.{Derivation}
-use Rattle.farkas.specs.Steps.{without, with_var, matches, matches_of, matches_fit, with_each, combined}
-use Rattle.farkas.proofs.Matching.{step_made, step_too_large, step_too_long}
+use Rattle.farkas.specs.Steps.{without, with_var, matches, matches_fit, with_each, combined}
+use Rattle.farkas.proofs.Matching.{step_made, step_too_large}
 use Rattle.farkas.proofs.steps.eliminate.Goals as goal
 
 pub returns-in-None : goal.returns-in-None
@@ -18,6 +18,8 @@ returns-in-Some c =
     let free : c.in_ok-without.field-0.without.items ≡ without c.args.var.now c.args.rows.items = search rules in
     let with_is : c.as_slice.result.now ≡ with_var c.args.var.now c.args.rows.items = search rules in
     let kept : c.keep_each.new.kept.items ≡ with_each [] c.in_ok-without.field-0.without.items = search rules in
-    let made : c.combine_all.new.kept.items ≡ with_each c.keep_each.new.kept.items (combined c.args.var.now (matches c.args.var.now c.as_slice.result.now)) = search rules in
-    (search rules, step_made c.args.var.now c.args.rows.items c.in_ok-without.field-0.without.items c.keep_each.new.kept.items c.combine_all.new.kept.items 0 free kept
-      (made ∙ ap (λ (rs : List Derivation). with_each c.keep_each.new.kept.items (combined c.args.var.now (matches c.args.var.now rs))) with_is))
+    let made : c.combine_all.new.kept.items ≡ with_each c.keep_each.new.kept.items (combined c.args.var.now (matches c.args.var.now c.as_slice.result.now)) = search rules in (
+      search rules,
+      step_made c.args.var.now c.args.rows.items c.in_ok-without.field-0.without.items c.keep_each.new.kept.items c.combine_all.new.kept.items 0 free kept
+          (made ∙ ap (λ (rs : List Derivation). with_each c.keep_each.new.kept.items (combined c.args.var.now (matches c.args.var.now rs))) with_is),
+    )

@@ -1,7 +1,6 @@
-use Rattle.std.proofs.Common.{rules, ◌≡◌, sym, ◌∙◌, subst, ap, List, ℕ, ◌<◌, arith, set, Option, Some, None, ◌+◌}
+use Rattle.std.proofs.Common.{rules, ◌≡◌, ◌∙◌, ap, ℕ, arith, set, Some, None, ◌+◌}
 use Rattle.std.specs.List.{insert}
-use Rattle.farkas.specs.declared.answers.Multiplier.{Multiplier}
-use Rattle.farkas.specs.Weights.{found_factor, is_below, before_row, with_multiplier}
+use Rattle.farkas.specs.Weights.{found_factor, before_row}
 use Rattle.farkas.proofs.Adding.{joined, joined_fits, inserted, found_within, none_if, some_if}
 use Rattle.farkas.proofs.weights.add.Goals as goal
 

@@ -1,7 +1,7 @@
-use Rattle.std.proofs.Common.{rules, ◌≡◌, ℕ, ◌*◌, get_or, sym, ◌∙◌, inl, inr, false}
+use Rattle.std.proofs.Common.{rules, ◌≡◌, ℕ, ◌*◌, get_or, ◌∙◌}
 use Rattle.farkas.specs.declared.answers.Multiplier.{Multiplier}
-use Rattle.farkas.specs.Weights.{with_multiplier, products_fit, sum_fits, sums_fit, scaled_multipliers}
-use Rattle.farkas.proofs.Adding.{weigh_next, products_next, products_end, sums_next, sums_end, some_if, fit_false}
+use Rattle.farkas.specs.Weights.{with_multiplier}
+use Rattle.farkas.proofs.Adding.{weigh_next, products_next, sums_next, some_if}
 use Rattle.farkas.proofs.weights.weigh.Goals as goal
 
 none : Multiplier
@@ -11,12 +11,12 @@ pub loop-multiplier-preserved : goal.loop-multiplier-preserved
 unfolding none
 loop-multiplier-preserved c =
     let f : c.in-Some-product.factor ≡ c.args.a * (get_or c.args.first.now c.loop-multiplier.multiplier-index none).factor =
-      some_if {A = ℕ} _ _ _ _ c.product.ensures c.in-Some-product.is in
+    some_if {A = ℕ} _ _ _ _ c.product.ensures c.in-Some-product.is in
     let o : c.add.new.out.items ≡ with_multiplier (record { row = (get_or c.args.first.now c.loop-multiplier.multiplier-index none).row; factor = c.in-Some-product.factor }) c.loop-multiplier.out.items = search rules in
     record {
       told = weigh_next c.args.a c.loop-multiplier.multiplier-index c.args.first.now c.loop-multiplier.out.items c.add.new.out.items none c.in-Some-product.factor c.loop-multiplier-test.true f o
-        ∙ c.loop-multiplier.invariant.told;
+          ∙ c.loop-multiplier.invariant.told;
       products = products_next c.args.a c.loop-multiplier.multiplier-index c.args.first.now none c.in-Some-product.factor c.product.result c.loop-multiplier-test.true c.product.ensures c.in-Some-product.is
-        ∙ c.loop-multiplier.invariant.products;
+          ∙ c.loop-multiplier.invariant.products;
       sums = λ e. c.loop-multiplier.invariant.sums (sums_next c.args.a c.loop-multiplier.multiplier-index c.args.first.now c.loop-multiplier.out.items c.add.new.out.items none c.in-Some-product.factor c.loop-multiplier-test.true f o e);
     }
