@@ -1,9 +1,11 @@
 //! Makes a list of costs with so many runs, and adds it to itself, merges it with itself or groups its places
 //! so many times, as each line of standard input says. It prints how many places the last result has before
-//! its tail. `bench/multisets` takes the time.
+//! its tail. Each run has one place, or twice as many for each doubling that a fourth word asks for.
+//! `bench/multisets` takes the time.
 //!
 //! ```text
 //! plus 1000 10
+//! group 1000 10 20
 //! ```
 #![tactic(auto)]
 
@@ -75,13 +77,24 @@ fn called(alloc: Global, call: &str, list: &Multi) -> Result<Multi, AllocError> 
     }
 }
 
-/// What stands in a line, as `plus 1000 10`: the call, how many runs, and how many times.
+/// The list with twice as many places in each run, so many times over.
+fn widened(alloc: Global, list: Multi, doublings: u64) -> Result<Multi, AllocError> {
+    let mut wide = list;
+    for _ in 0..doublings {
+        wide = united(alloc, &wide, &wide)?;
+    }
+    Ok(wide)
+}
+
+/// What stands in a line, as `plus 1000 10` or `group 1000 10 20`: the call, how many runs, how many times, and
+/// how often the places of each run are doubled.
 fn done(alloc: Global, line: &str) -> Result<u64, AllocError> {
     let mut words = line.split(' ');
     let call = words.next().unwrap_or("");
     let runs = number(words.next());
     let times = number(words.next());
-    let list = stairs(alloc, runs)?;
+    let doublings = number(words.next());
+    let list = widened(alloc, stairs(alloc, runs)?, doublings)?;
     let mut length = list.length();
     for _ in 0..times {
         length = called(alloc, call, &list)?.length();
