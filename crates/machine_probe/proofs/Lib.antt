@@ -2,3 +2,4 @@ pub mod Places
 pub mod Showing
 pub mod Tallies
 pub mod Ongoing
+pub mod Agreeing

@@ -1,2 +1,3 @@
 pub mod ProbedRuns
 pub mod Weights
+pub mod Agreement
