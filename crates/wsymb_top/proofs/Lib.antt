@@ -1,7 +1,8 @@
+pub mod Analysing
 pub mod Answering
-pub mod Causes
 pub mod Deciding
-pub mod Numerals
+pub mod Loading
 pub mod Running
+pub mod Settling
 pub mod Valuing
 pub mod Walking

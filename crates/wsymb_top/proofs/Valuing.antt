@@ -1,10 +1,10 @@
 -- The formula and the tree of a straight function have one value, which bounds its returning runs.
-use Rattle.std.proofs.Common.{◌≡◌, ℕ, ℤ, suc, ◌+◌, ◌*◌, ◌≤◌, Bool, true, false, cond, eqb, lit≤, Option, Some, None, List, [], ◌∷◌, length, slice_index, sum_by, refl, sym, ap, ◌∙◌, subst, arith}
+use Rattle.std.proofs.Common.{◌≡◌, ℕ, ℤ, suc, ◌+◌, ◌*◌, ◌≤◌, Bool, true, false, cond, eqb, Option, Some, None, List, [], ◌∷◌, length, slice_index, sum_by, refl, sym, ap, ◌∙◌, subst, arith}
 use Rattle.std.proofs.lemmas.Bool.{eqb-true}
 use Rattle.elf32_image.specs.Parts.{ImageValue}
 use Rattle.arm_isa.specs.declared.instruction.Insn.{Insn}
 use Rattle.fetch_timing.specs.declared.timing.Timing.{Timing}
-use Rattle.fetch_timing.specs.Timings.{IsWithinLimits, point_cost, unit_timing}
+use Rattle.fetch_timing.specs.Timings.{IsWithinLimits, point_cost}
 use Rattle.wsym_terms.specs.declared.costs.Cost.TheVariants as cost
 use Rattle.wsym_terms.specs.Extents.{Extent, IsWithin, plus}
 use Rattle.wsym_terms.specs.Extents.Extent.{Finite}
@@ -97,25 +97,10 @@ bound image t entry stack insns report limits straight is values range s n c sta
     let same = same_cycles (sum_by (point_cost t) insns) t.miss (straight_unscoped t entry insns) (length (straight_uses t entry insns)) (length (lines_used (geometry_of t) None addresses)) (all_uses (geometry_of t) rings (lines_used (geometry_of t) None addresses)) in
     subst (λ (e : Extent). IsWithin c e) (sym (tree_is t entry stack insns report is values)) (subst (λ (most : ℕ). c ≤ most) same within)
 
-one : 1 ≤ 1000000
-one = lit≤ tt
-
-unit_within : IsWithinLimits unit_timing
-unit_within = record {
-  sets = (4, lit≤ tt, lit≤ tt, refl);
-  some_way = lit≤ tt;
-  ways = lit≤ tt;
-  line = (4, lit≤ tt, lit≤ tt, refl);
-  miss = lit≤ tt;
-  skipped = lit≤ tt;
-  register = lit≤ tt;
-  classes = (one, (one, (one, (one, (one, (one, (one, (one, (one, (one, (one, tt)))))))))));
-}
-
 -- the report of the instructions of a straight function keeps all its promises
-pub kept : (image : ImageValue) (entry stack : ℕ) (insns : List Insn) (report : Report) → length insns ≤ 100 → IsStraight image entry insns → IsOfWalk unit_timing entry stack insns report → IsKept image unit_timing entry stack report
-kept image entry stack insns report few straight is = record {
+pub kept : (image : ImageValue) (t : Timing) (entry stack : ℕ) (insns : List Insn) (report : Report) → IsWithinLimits t → length insns ≤ 100 → IsStraight image entry insns → IsOfWalk t entry stack insns report → IsKept image t entry stack report
+kept image t entry stack insns report limits few straight is = record {
   describes = (insns, few, straight, is);
-  exact = exact unit_timing entry stack insns report is;
-  bound = bound image unit_timing entry stack insns report unit_within straight is;
+  exact = exact t entry stack insns report is;
+  bound = bound image t entry stack insns report limits straight is;
 }

@@ -1,5 +1,6 @@
-pub mod Commands
+pub mod Answers
 pub mod Headline
+pub mod Jobs
 pub mod Outcomes
 pub mod Refusals
 pub mod Reports

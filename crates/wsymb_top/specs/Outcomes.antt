@@ -1,168 +1,163 @@
--- What a call of the program may answer: which outcome is due for the words and the file, and how it is delivered.
-use Rattle.std.specs.Prelude.{◌≡◌, ◌≢◌, ℕ, ◌≤◌, ◌<◌, ◌⊎◌, List, Option, Some, None, Ok, Err, length}
-use Rattle.wsym_io.specs.Io.{File, file_bytes, appended, AppendsFront, Rose, IfTold}
-use Rattle.elf32_image.specs.Parts.{ImageValue}
-use Rattle.elf32_image.specs.Header.{header_of}
-use Rattle.elf32_image.specs.Segments.{image_of}
-use Rattle.elf32_image.specs.declared.format.FileHeader.{FileHeader}
-use Rattle.elf32_image.specs.declared.refusal.ElfRefusal.TheVariants as elf
+-- Which outcome a call of the program has, by its words, the files that they name and its probes.
+use Rattle.std.specs.Prelude.{◌≡◌, ◌≢◌, ℕ, ◌⊎◌, Bool, true, false, List, [], ◌∷◌, Option, Some, None, Result, Ok, Err}
+use Rattle.std.specs.List.{list_any}
+use Rattle.wsym_io.specs.Io.{File, Rose, IfTold, file_bytes}
 use Rattle.arm_isa.specs.declared.instruction.Insn.{Insn}
-use Rattle.fetch_timing.specs.Timings.{unit_timing}
+use Rattle.command_words.specs.Commands.{command_of, files_of}
+use Rattle.command_words.specs.declared.commands.Command.{Command}
+use Rattle.command_words.specs.declared.commands.Command.TheVariants.{Analyse, Run}
+use Rattle.command_words.specs.declared.options.Setup.{Setup}
+use Rattle.fetch_timing.specs.declared.timing.Timing.{Timing}
+use Rattle.elf32_image.specs.Parts.{ImageValue}
+use Rattle.machine_probe.specs.Weights.{Standing}
+use Rattle.function_runs.specs.declared.refusals.RunRefusal.{RunRefusal}
+use Rattle.function_runs.specs.declared.refusals.RunRefusal.TheVariants as run
+use Rattle.function_runs.specs.Causes.{IsRefused}
+use Rattle.function_runs.specs.Lines.{result_text}
+use Rattle.function_runs.specs.Results.{FunctionRun, IsResult}
 use Rattle.report_text.specs.declared.report.Report.{Report}
 use Rattle.report_text.specs.Lines.{text_of}
+use Rattle.wsymb_top.specs.declared.inputs.Inputs.{Inputs}
+use Rattle.wsymb_top.specs.declared.jobs.Job.{Job}
 use Rattle.wsymb_top.specs.declared.refusals.Refusal.{Refusal}
 use Rattle.wsymb_top.specs.declared.refusals.Refusal.TheVariants as refusal
-use Rattle.wsymb_top.specs.Commands.{Command, Analyse, command_of, file_of}
-use Rattle.wsymb_top.specs.Refusals.{status_of, line_of}
-use Rattle.wsymb_top.specs.Straight.{IsCrooked, IsOutsideAt, IsUnknownAt}
 use Rattle.wsymb_top.specs.Headline.{IsKept}
+use Rattle.wsymb_top.specs.Jobs.{AreInputs, is_any_long, is_long, job_of, task_of}
+use Rattle.wsymb_top.specs.Refusals.{line_of, run_refusal, status_of}
 use Rattle.wsymb_top.specs.Reports.{IsOfWalk}
+use Rattle.wsymb_top.specs.Straight.{IsCrooked, IsOutsideAt, IsUnknownAt}
 
--- the greatest length of a file, in bytes
-abbrev pub longest : ℕ
-longest = 67108864
-
--- the file has one program header; others aren't analysed yet
-abbrev pub HasOneHeader : List ℕ → Type 0
-HasOneHeader bytes = (header : FileHeader) × (header_of bytes ≡ Some header) × (header.program_count ≡ 1)
-
--- why the function in an image has no report
-abbrev pub IsRefusedByWalk : ImageValue → ℕ → Refusal → Type 0
-IsRefusedByWalk image entry refusal.Memory = Unit {0}
-IsRefusedByWalk image entry refusal.NotStraight = IsCrooked image entry
-IsRefusedByWalk image entry (refusal.UnknownWord a) = IsUnknownAt image entry a
-IsRefusedByWalk image entry (refusal.OutsideCode a) = IsOutsideAt image entry a
-IsRefusedByWalk image entry refusal.NotElf32Arm = ⊥
-IsRefusedByWalk image entry refusal.Truncated = ⊥
-IsRefusedByWalk image entry refusal.SegmentsOverlap = ⊥
-IsRefusedByWalk image entry refusal.Usage = ⊥
-IsRefusedByWalk image entry refusal.ReadFault = ⊥
-IsRefusedByWalk image entry refusal.FileTooLong = ⊥
-
--- why a file of at most the greatest length has no report
-abbrev pub IsRefusedFor : List ℕ → ℕ → Refusal → Type 0
-IsRefusedFor bytes entry refusal.Memory = Unit {0}
-IsRefusedFor bytes entry refusal.NotElf32Arm = header_of bytes ≡ None
-IsRefusedFor bytes entry refusal.Truncated = HasOneHeader bytes × (image_of bytes ≡ Err elf.Truncated)
-IsRefusedFor bytes entry refusal.SegmentsOverlap = HasOneHeader bytes × (image_of bytes ≡ Err elf.SegmentsOverlap)
-IsRefusedFor bytes entry refusal.NotStraight =
-    ((header : FileHeader) × (header_of bytes ≡ Some header) × (header.program_count ≢ 1))
-    ⊎ (HasOneHeader bytes × (image : ImageValue) × (image_of bytes ≡ Ok image) × IsCrooked image entry)
-IsRefusedFor bytes entry (refusal.UnknownWord a) = HasOneHeader bytes × (image : ImageValue) × (image_of bytes ≡ Ok image) × IsUnknownAt image entry a
-IsRefusedFor bytes entry (refusal.OutsideCode a) = HasOneHeader bytes × (image : ImageValue) × (image_of bytes ≡ Ok image) × IsOutsideAt image entry a
-IsRefusedFor bytes entry refusal.Usage = ⊥
-IsRefusedFor bytes entry refusal.ReadFault = ⊥
-IsRefusedFor bytes entry refusal.FileTooLong = ⊥
-
--- the report is that of the function in the file
-abbrev pub IsReportOf : List ℕ → ℕ → Report → Type 0
-IsReportOf bytes entry report =
-    HasOneHeader bytes × (image : ImageValue) × (image_of bytes ≡ Ok image) × IsKept image unit_timing entry 4096 report
-
--- the text is that of such a report
-abbrev pub IsReported : List ℕ → ℕ → List ℕ → Type 0
-IsReported bytes entry text = (report : Report) × IsReportOf bytes entry report × (text ≡ text_of report)
-
--- the text is that of a report of the function in the image
-abbrev pub IsDescribed : ImageValue → ℕ → List ℕ → Type 0
-IsDescribed image entry text = (report : Report) × IsKept image unit_timing entry 4096 report × (text ≡ text_of report)
-
--- the text is that of a report of these instructions
-abbrev pub IsOfInsns : ℕ → List Insn → List ℕ → Type 0
-IsOfInsns entry insns text = (report : Report) × IsOfWalk unit_timing entry 4096 insns report × (text ≡ text_of report)
-
+-- What comes of a call: a refusal, a report, or a run that returned, with its steps, its cycles and the probes' tallies.
 pub data Outcome : Type 0 where
   Refuses : (why : Refusal) → Outcome
   Prints : (report : Report) → Outcome
+  Returns : (steps cycles : ℕ) (tallies : List ℕ) → Outcome
 
 abbrev pub outcome_status : Outcome → ℕ
 outcome_status (Refuses why) = status_of why
 outcome_status (Prints report) = 0
+outcome_status (Returns steps cycles tallies) = 0
 
 abbrev pub outcome_text : Outcome → List ℕ
 outcome_text (Refuses why) = line_of why
 outcome_text (Prints report) = text_of report
+outcome_text (Returns steps cycles tallies) = result_text steps cycles tallies
 
--- What the shelf tells and counts: its content, and its counts of faults by name, before and after the call.
-pub record Reading : Type 0 where
+-- the bytes of stack that a function may use
+abbrev pub stack_size : ℕ
+stack_size = 4096
+
+-- why the function at an address of an image has no report
+pub data IsRefusedByWalk (image : ImageValue) (entry : ℕ) (why : Refusal) : Type 0 where
+  Unknown : (a : ℕ) → (is : why ≡ refusal.UnknownWord a) → (cause : IsUnknownAt image entry a) → IsRefusedByWalk image entry why
+  Outside : (a : ℕ) → (is : why ≡ refusal.OutsideCode a) → (cause : IsOutsideAt image entry a) → IsRefusedByWalk image entry why
+  Crooked : (is : why ≡ refusal.NotStraight) → (cause : IsCrooked image entry) → IsRefusedByWalk image entry why
+
+-- an analysis gives a report of the function that keeps its promises, or there is a cause why not
+abbrev pub IsOfAnalysis : Job → Outcome → Type 0
+IsOfAnalysis job (Prints report) = IsKept job.image job.timing job.entry stack_size report
+IsOfAnalysis job (Refuses why) = IsRefusedByWalk job.image job.entry why
+IsOfAnalysis job (Returns steps cycles tallies) = ⊥
+
+-- the run of the function of a job that a setup asks for, which these probes watch
+abbrev pub running : Job → Setup → List Standing → FunctionRun
+running job setup probes = record { image = job.image; timing = job.timing; entry = job.entry; setup = setup; probes = probes }
+
+-- why a run has no result
+abbrev pub IsRefusedByRun : FunctionRun → Refusal → Type 0
+IsRefusedByRun r why = (cause : RunRefusal) × IsRefused r cause × (cause ≢ run.Memory) × (why ≡ run_refusal r.setup.steps cause)
+
+-- a run returns, or there is a cause why not
+abbrev pub IsOfRun : FunctionRun → Outcome → Type 0
+IsOfRun r (Returns steps cycles tallies) = IsResult r steps cycles tallies
+IsOfRun r (Refuses why) = IsRefusedByRun r why
+IsOfRun r (Prints report) = ⊥
+
+abbrev pub IsOfJob : Command → List Standing → Job → Outcome → Type 0
+IsOfJob (Analyse task) probes job o = IsOfAnalysis job o
+IsOfJob (Run task setup) probes job o = IsOfRun (running job setup probes) o
+
+abbrev pub IsOfLoaded : Command → List Standing → Result Job Refusal → Outcome → Type 0
+IsOfLoaded command probes (Ok job) o = IsOfJob command probes job o
+IsOfLoaded command probes (Err why) o = o ≡ Refuses why
+
+abbrev pub IsOfLength : Bool → Command → List Standing → Inputs → Outcome → Type 0
+IsOfLength true command probes inputs o = o ≡ Refuses refusal.FileTooLong
+IsOfLength false command probes inputs o = IsOfLoaded command probes (job_of (task_of command).function inputs) o
+
+-- The outcome of a command whose files hold this. The causes of refusals are tested in this order: a file is too long; the
+-- files hold no job; and the command's own.
+abbrev pub IsOfInputs : Command → List Standing → Inputs → Outcome → Type 0
+IsOfInputs command probes inputs o = IsOfLength (is_any_long inputs) command probes inputs o
+
+-- What a call has and sees: its words, where its probes stand, what the shelf tells, and the shelf's counts of faults by name
+-- before and after the call.
+pub record Call : Type 0 where
+  pub words : List (List ℕ)
+  pub probes : List Standing
   pub content : Option (List File)
   pub before : List ℕ → ℕ
   pub after : List ℕ → ℕ
 
--- the fact of the bytes of the command's file, where the shelf tells them
-abbrev pub OfFile : Reading → Command → (List ℕ → ℕ → Type 0) → Type 0
-OfFile reading (Analyse elf entry) P = IfTold reading.content (λ files. P (file_bytes files elf) entry)
+-- the outcome of a command over what was read for it
+abbrev pub IsOfCommand : Option (List File) → List Standing → Command → Outcome → Type 0
+IsOfCommand content probes command o = (inputs : Inputs) × AreInputs content (task_of command) inputs × IsOfInputs command probes inputs o
 
--- the words are right, and the fact holds of the bytes of the file that they name and the address that they give
-abbrev pub OnFile : List (List ℕ) → Reading → (List ℕ → ℕ → Type 0) → Type 0
-OnFile words reading P = (command : Command) × (command_of words ≡ Some command) × OfFile reading command P
+abbrev pub IsOfWords : Option (List File) → List Standing → Option Command → Outcome → Type 0
+IsOfWords content probes None o = o ≡ Refuses refusal.Usage
+IsOfWords content probes (Some command) o = IsOfCommand content probes command o
 
--- the words are right, and the count of faults rose for the file that they name
-abbrev pub HasReadFault : List (List ℕ) → (List ℕ → ℕ) → (List ℕ → ℕ) → Type 0
-HasReadFault words before after = (command : Command) × (command_of words ≡ Some command) × Rose (before (file_of command)) (after (file_of command))
+-- the outcome that the words, the files and the probes decide
+abbrev pub IsDecided : Call → Outcome → Type 0
+IsDecided call o = IsOfWords call.content call.probes (command_of call.words) o
 
--- this outcome is due for these words over such a shelf
-abbrev pub IsDue : List (List ℕ) → Reading → Outcome → Type 0
-IsDue words reading (Refuses refusal.Memory) = Unit {0}
-IsDue words reading (Refuses refusal.Usage) = command_of words ≡ None
-IsDue words reading (Refuses refusal.ReadFault) = HasReadFault words reading.before reading.after
-IsDue words reading (Refuses refusal.FileTooLong) = OnFile words reading (λ bytes entry. longest < length bytes)
-IsDue words reading (Refuses refusal.NotElf32Arm) = OnFile words reading (λ bytes entry. (length bytes ≤ longest) × IsRefusedFor bytes entry refusal.NotElf32Arm)
-IsDue words reading (Refuses refusal.Truncated) = OnFile words reading (λ bytes entry. (length bytes ≤ longest) × IsRefusedFor bytes entry refusal.Truncated)
-IsDue words reading (Refuses refusal.SegmentsOverlap) = OnFile words reading (λ bytes entry. (length bytes ≤ longest) × IsRefusedFor bytes entry refusal.SegmentsOverlap)
-IsDue words reading (Refuses refusal.NotStraight) = OnFile words reading (λ bytes entry. (length bytes ≤ longest) × IsRefusedFor bytes entry refusal.NotStraight)
-IsDue words reading (Refuses (refusal.UnknownWord a)) = OnFile words reading (λ bytes entry. (length bytes ≤ longest) × IsRefusedFor bytes entry (refusal.UnknownWord a))
-IsDue words reading (Refuses (refusal.OutsideCode a)) = OnFile words reading (λ bytes entry. (length bytes ≤ longest) × IsRefusedFor bytes entry (refusal.OutsideCode a))
-IsDue words reading (Prints report) = OnFile words reading (λ bytes entry. (length bytes ≤ longest) × IsReportOf bytes entry report)
+-- the count of faults rose for one of these files
+abbrev pub HasRisen : (List ℕ → ℕ) → (List ℕ → ℕ) → List (List ℕ) → Type 0
+HasRisen before after [] = ⊥
+HasRisen before after (name ∷ names) = Rose (before name) (after name) ⊎ HasRisen before after names
 
--- the text is that of a report that is due
-abbrev pub IsGivenText : List (List ℕ) → Reading → List ℕ → Type 0
-IsGivenText words reading text = (report : Report) × IsDue words reading (Prints report) × (text ≡ text_of report)
+-- the words are right, and the count of faults rose for a file that they name
+abbrev pub HasReadFault : Call → Type 0
+HasReadFault call = (command : Command) × (command_of call.words ≡ Some command) × HasRisen call.before call.after (files_of command)
 
--- What a sink tells and counts: its contents and its count of faults, before and after the call.
-pub record Writing : Type 0 where
-  pub contents : Option (List ℕ)
-  pub new : Option (List ℕ)
-  pub before : ℕ
-  pub after : ℕ
+-- An outcome is due for a call: memory may be refused at any place, a file can't be read, or else it is decided.
+pub data IsDue (call : Call) (o : Outcome) : Type 0 where
+  OutOfMemory : (is : o ≡ Refuses refusal.Memory) → IsDue call o
+  Unreadable : (is : o ≡ Refuses refusal.ReadFault) → (fault : HasReadFault call) → IsDue call o
+  Decided : (decided : IsDecided call o) → IsDue call o
 
--- A text with a status is delivered: it is appended whole; or the sink failed, which is status 4, or had no memory, which is
--- status 1, and some front of the text is appended.
-pub data IsDelivered (text : List ℕ) (status : ℕ) (writing : Writing) (result : ℕ) : Type 0 where
-  Whole : (answer : result ≡ status) → (written : writing.new ≡ appended writing.contents text) → IsDelivered text status writing result
-  SinkFailed : (answer : result ≡ 4) → (rose : Rose writing.before writing.after) → (written : AppendsFront writing.contents writing.new text) → IsDelivered text status writing result
-  SinkFull : (answer : result ≡ 1) → (written : AppendsFront writing.contents writing.new text) → IsDelivered text status writing result
+-- an outcome that is no refusal
+abbrev pub IsAnswer : Outcome → Type 0
+IsAnswer (Refuses why) = ⊥
+IsAnswer (Prints report) = Unit {0}
+IsAnswer (Returns steps cycles tallies) = Unit {0}
 
--- the line of a refusal, or of want of memory, is delivered
-abbrev pub IsRefused : Refusal → Writing → ℕ → Type 0
-IsRefused why writing result =
-    IsDelivered (line_of why) (status_of why) writing result ⊎ IsDelivered (line_of refusal.Memory) 1 writing result
+-- the text of an answer of which the fact holds
+abbrev pub IsTextOf : (Outcome → Type 0) → List ℕ → Type 0
+IsTextOf P text = (o : Outcome) × P o × IsAnswer o × (text ≡ outcome_text o)
 
--- the whole answer of a call: an outcome that is due, delivered
-abbrev pub IsAnswered : List (List ℕ) → Reading → Writing → ℕ → Type 0
-IsAnswered words reading writing result =
-    (outcome : Outcome) × IsDue words reading outcome × IsDelivered (outcome_text outcome) (outcome_status outcome) writing result
+-- memory was refused, or the fact holds of the refusal
+abbrev pub IsRefusal : (Outcome → Type 0) → Refusal → Type 0
+IsRefusal P why = (why ≡ refusal.Memory) ⊎ P (Refuses why)
 
--- the text of a report that is due was appended, and nothing else
-abbrev pub IsGivenReport : List (List ℕ) → Reading → Option (List ℕ) → Option (List ℕ) → Type 0
-IsGivenReport words reading old new = (report : Report) × IsDue words reading (Prints report) × (new ≡ appended old (text_of report))
+-- one of these files is longer than the greatest length
+abbrev pub is_any_file_long : List File → List (List ℕ) → Bool
+is_any_file_long files names = list_any (λ name. is_long (file_bytes files name)) names
 
--- an outcome that the words and the file's bytes alone decide
-abbrev pub IsFixed : Outcome → Type 0
-IsFixed (Refuses refusal.Memory) = ⊥
-IsFixed (Refuses refusal.ReadFault) = ⊥
-IsFixed (Refuses refusal.Usage) = Unit {0}
-IsFixed (Refuses refusal.FileTooLong) = Unit {0}
-IsFixed (Refuses refusal.NotElf32Arm) = Unit {0}
-IsFixed (Refuses refusal.Truncated) = Unit {0}
-IsFixed (Refuses refusal.SegmentsOverlap) = Unit {0}
-IsFixed (Refuses refusal.NotStraight) = Unit {0}
-IsFixed (Refuses (refusal.UnknownWord a)) = Unit {0}
-IsFixed (Refuses (refusal.OutsideCode a)) = Unit {0}
-IsFixed (Prints report) = Unit {0}
+-- why one of these files could not be read: memory, a fault, or that it is too long
+abbrev pub IsUnread : Option (List File) → (List ℕ → ℕ) → (List ℕ → ℕ) → List (List ℕ) → Refusal → Type 0
+IsUnread content before after names why =
+    (why ≡ refusal.Memory)
+    ⊎ (((why ≡ refusal.ReadFault) × HasRisen before after names)
+    ⊎ ((why ≡ refusal.FileTooLong) × IfTold content (λ files. is_any_file_long files names ≡ true)))
 
--- But for want of memory (1), a fault of reading (3) and one of writing (4), the status is that of each outcome that the words
--- and the file's bytes decide.
-abbrev pub IsOnly : List (List ℕ) → Reading → ℕ → Type 0
-IsOnly words reading result =
-    (result ≡ 1) ⊎ ((result ≡ 3) ⊎ ((result ≡ 4) ⊎ ((outcome : Outcome) → IsFixed outcome → IsDue words reading outcome → result ≡ outcome_status outcome)))
+-- why a command has no text
+abbrev pub IsUnanswered : Option (List File) → (List ℕ → ℕ) → (List ℕ → ℕ) → List Standing → Command → Refusal → Type 0
+IsUnanswered content before after probes command why =
+    (why ≡ refusal.Memory)
+    ⊎ (((why ≡ refusal.ReadFault) × HasRisen before after (files_of command))
+    ⊎ IsOfCommand content probes command (Refuses why))
+
+-- the text is that of a report of these instructions
+abbrev pub IsOfInsns : Timing → ℕ → List Insn → List ℕ → Type 0
+IsOfInsns t entry insns text = (report : Report) × IsOfWalk t entry stack_size insns report × (text ≡ text_of report)

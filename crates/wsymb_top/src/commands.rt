@@ -1,103 +1,114 @@
-ghost use Rattle.std.specs.Prelude.{◌≡◌, ◌<◌, ◌≤◌, ◌^◌, IfSome, IfNone, None, Some, map, string_bytes, length};
-ghost use Rattle.wsymb_top.specs.Commands.{Command, address_of, analyse_of, analyse_words, command_of, hex_after, hex_digit, is_file_name};
-ghost use Rattle.wsymb_top.specs.Commands.Command.{Analyse};
+//! The commands: from their words to their texts.
 
-/// The word behind which the words of an analysis stand.
-const ANALYSE: &str = "analyse";
+ghost use Rattle.std.specs.Prelude.{◌≡◌, ◌≤◌, ◌<◌, ◌^◌, ℕ, List, IfOk, IfErr, false, map, length};
+ghost use Rattle.command_words.specs.Commands.{HasSetup};
+ghost use Rattle.command_words.specs.Options.{IsSetup};
+ghost use Rattle.fetch_timing.specs.Timings.{IsWithinLimits};
+ghost use Rattle.machine_probe.specs.Weights.{AreReady};
+ghost use Rattle.wsymb_top.specs.Jobs.{is_any_long, task_of};
+ghost use Rattle.wsymb_top.specs.Outcomes.{IsOfAnalysis, IsOfCommand, IsOfInputs, IsOfJob, IsOfRun, IsRefusal, IsTextOf, IsUnanswered, running};
+ghost use Rattle.wsymb_top.specs.Refusals.{run_refusal};
 
-/// The name of the built-in cost table.
-const UNIT: &str = "unit";
+use crate::analysis::report_of_job;
+use crate::inputs::{Inputs, read_inputs};
+use crate::jobs::{Job, load};
+use crate::refusals::Refusal;
+use command_words::{Command, Setup, Task};
+use function_runs::run_function;
+use machine_probe::Probe;
+use std::alloc::Global;
+use wsym_io::Shelf;
 
-/// What an analysis is asked for.
-#[derive(Clone, Copy)]
-pub(crate) struct Analysis<'a> {
-    /// The name of the ELF file.
-    pub elf: &'a str,
-    /// The address of the function.
-    pub entry: u32,
-}
+/// The text of a command, or why there is none.
+pub(crate) fn answer_command<F: Shelf>(
+    alloc: Global,
+    command: &Command,
+    shelf: &mut F,
+    probes: &mut Vec<Box<dyn Probe>>,
+) -> Result<Vec<u8>, Refusal>
+    requires setup { HasSetup command.now }
+    requires few { length probes.old.items < 2 ^ 32 }
+    requires tallies { AreReady (map standing probes.old.items) }
 
-/// What the words ask for: `None` exactly where they are wrong.
-pub(crate) fn asked(words: &[String]) -> Option<Analysis<'_>>
-    ensures some { IfSome result (λ a. command_of (map string_bytes words.now) ≡ Some (Analyse a.elf.now a.entry)) }
-    ensures none { IfNone result (command_of (map string_bytes words.now) ≡ None) }
+    ensures text { IfOk result (λ text. IsTextOf (IsOfCommand (F.content shelf.old) (map standing probes.old.items) command.now) text.items) }
+    ensures refused { IfErr result (IsUnanswered (F.content shelf.old) (F.faults shelf.old) (F.faults shelf.new) (map standing probes.old.items) command.now) }
+    ensures content { F.content shelf.new ≡ F.content shelf.old }
+    ensures later { (name : List ℕ) → F.faults shelf.old name ≤ F.faults shelf.new name }
 {
-    let (command, words) = words.split_first()?;
-    if command.as_str() == ANALYSE {
-        analysis_asked(words)
-    } else {
-        None
+    match read_inputs(alloc, task_of(command), shelf) {
+        Ok(inputs) => answer_inputs(alloc, command, &inputs, probes),
+        Err(why) => Err(why),
     }
 }
 
-/// The words of an analysis: a file, `unit` and an address.
-fn analysis_asked(words: &[String]) -> Option<Analysis<'_>>
-    ensures some { IfSome result (λ a. analyse_of (map string_bytes words.now) ≡ Some (Analyse a.elf.now a.entry)) }
-    ensures none { IfNone result (analyse_of (map string_bytes words.now) ≡ None) }
+/// The function that a command is about.
+fn task_of(command: &Command) -> &Task
+    ensures { result.now ≡ task_of command.now }
 {
-    let (elf, words) = words.split_first()?;
-    let (timing, words) = words.split_first()?;
-    let (function, words) = words.split_first()?;
-    match words.split_first() {
-        None => analysis_of(elf.as_str(), timing.as_str(), function.as_str()),
-        Some(_) => None,
+    match command {
+        Command::Analyse(task) | Command::Run(task, _) => task,
     }
 }
 
-/// The analysis of a file by a cost table, at the address of a function.
-fn analysis_of<'a>(elf: &'a str, timing: &str, function: &str) -> Option<Analysis<'a>>
-    ensures some { IfSome result (λ a. analyse_words elf.now timing.now function.now ≡ Some (Analyse a.elf.now a.entry)) }
-    ensures none { IfNone result (analyse_words elf.now timing.now function.now ≡ None) }
+/// The text of a command whose files hold these bytes, or why there is none.
+fn answer_inputs(
+    alloc: Global,
+    command: &Command,
+    inputs: &Inputs,
+    probes: &mut Vec<Box<dyn Probe>>,
+) -> Result<Vec<u8>, Refusal>
+    requires setup { HasSetup command.now }
+    requires short { is_any_long inputs.now ≡ false }
+    requires few { length probes.old.items < 2 ^ 32 }
+    requires tallies { AreReady (map standing probes.old.items) }
+
+    ensures text { IfOk result (λ text. IsTextOf (IsOfInputs command.now (map standing probes.old.items) inputs.now) text.items) }
+    ensures refused { IfErr result (IsRefusal (IsOfInputs command.now (map standing probes.old.items) inputs.now)) }
 {
-    if is_file_name(elf) && timing == UNIT {
-        let entry = address(function)?;
-        Some(Analysis { elf, entry })
-    } else {
-        None
+    match load(alloc, inputs, &task_of(command).function) {
+        Ok(job) => answer_job(alloc, command, &job, probes),
+        Err(why) => Err(why),
     }
 }
 
-/// Whether a word can be the name of a file: `=` marks the words that stand behind the names.
-fn is_file_name(word: &str) -> bool
-    ensures { result ≡ is_file_name word.now }
-{
-    !word.as_bytes().contains(&b'=')
-}
+/// The text of a command for the job that its files hold, or why there is none.
+fn answer_job(
+    alloc: Global,
+    command: &Command,
+    job: &Job,
+    probes: &mut Vec<Box<dyn Probe>>,
+) -> Result<Vec<u8>, Refusal>
+    requires limits { IsWithinLimits job.now.timing }
+    requires setup { HasSetup command.now }
+    requires few { length probes.old.items < 2 ^ 32 }
+    requires tallies { AreReady (map standing probes.old.items) }
 
-/// The address that `0x` and 1 to 8 hexadecimal digits spell.
-fn address(word: &str) -> Option<u32>
-    ensures { result ≡ address_of word.now }
+    ensures text { IfOk result (λ text. IsTextOf (IsOfJob command.now (map standing probes.old.items) job.now) text.items) }
+    ensures refused { IfErr result (IsRefusal (IsOfJob command.now (map standing probes.old.items) job.now)) }
 {
-    let (zero, rest) = word.as_bytes().split_first()?;
-    let (x, digits) = rest.split_first()?;
-    if *zero == b'0' && *x == b'x' && 1 <= digits.len() && digits.len() <= 8 {
-        hex_number(digits)
-    } else {
-        None
+    match command {
+        Command::Analyse(_) => report_of_job(alloc, job),
+        Command::Run(_, setup) => text_of_run(alloc, job, setup, probes),
     }
 }
 
-/// The number that hexadecimal digits spell.
-#[tactic(auto, using(crate::proofs::Numerals::hex_room, crate::proofs::Numerals::hex_more))]
-fn hex_number(digits: &[u8]) -> Option<u32>
-    requires { length digits.now ≤ 8 }
-    ensures { result ≡ hex_after 0 digits.now }
-{
-    let mut value: u32 = 0;
-    for digit in digits {
-        value = value * 16 + u32::from(hex_digit(*digit)?);
-    }
-    Some(value)
-}
+/// The lines of a run, or why it has no result.
+fn text_of_run(
+    alloc: Global,
+    job: &Job,
+    setup: &Setup,
+    probes: &mut Vec<Box<dyn Probe>>,
+) -> Result<Vec<u8>, Refusal>
+    requires limits { IsWithinLimits job.now.timing }
+    requires setup { IsSetup setup.now }
+    requires few { length probes.old.items < 2 ^ 32 }
+    requires tallies { AreReady (map standing probes.old.items) }
 
-fn hex_digit(byte: u8) -> Option<u8>
-    ensures value { result ≡ hex_digit byte }
-    ensures small { IfSome result (λ digit. digit < 16) }
+    ensures text { IfOk result (λ text. IsTextOf (IsOfRun (running job.now setup.now (map standing probes.old.items))) text.items) }
+    ensures refused { IfErr result (IsRefusal (IsOfRun (running job.now setup.now (map standing probes.old.items)))) }
 {
-    match byte {
-        b'0'..=b'9' => Some(byte - b'0'),
-        b'a'..=b'f' => Some(byte - b'a' + 10),
-        b'A'..=b'F' => Some(byte - b'A' + 10),
-        _ => None,
+    match run_function(alloc, &job.image, &job.timing, job.entry, setup, probes) {
+        Ok(text) => Ok(text),
+        Err(why) => Err(Refusal::of_run(setup.steps, why)),
     }
 }

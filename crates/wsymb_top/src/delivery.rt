@@ -1,5 +1,5 @@
 ghost use Rattle.std.specs.Prelude.{◌≡◌, ◌≤◌};
-ghost use Rattle.wsymb_top.specs.Outcomes.{IsDelivered, Writing};
+ghost use Rattle.wsymb_top.specs.Answers.{IsDelivered, Writing};
 
 use crate::refusals::{Refusal, Status, WRITE_FAULT};
 use wsym_io::{Sink, SinkFault, write_all};

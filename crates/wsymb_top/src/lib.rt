@@ -1,21 +1,32 @@
-//! WSymb's commands over any shelf and sink: words in, a report or a refusal out.
+//! WSymb's commands over any shelf and sink: words in, an answer or a refusal out.
 //!
-//! `analyse FILE unit 0x8000` reads an ELF executable from the shelf, and writes to the sink the report of
-//! the function at that address, or one line that says why there is none. What the answer says of the
-//! file's bytes is the contract of [`wsymb`].
+//! ```text
+//! analyse ELF TIMING FUNCTION
+//! run ELF TIMING FUNCTION [NAME=rK=VALUE].. [sp=ADDRESS] [stack=BYTES] [steps=NUMBER]
+//! ```
+//!
+//! `analyse` writes the report of a function of an ELF executable, `run` what a run of it on the reference
+//! machine comes to; or one line says why there is none. What the answer says of the files' bytes is the
+//! contract of [`wsymb`].
 #![tactic(auto)]
 
 mod analysis;
 mod commands;
 mod delivery;
+mod inputs;
+mod jobs;
 mod leaves;
 mod refusals;
 mod report;
-mod run;
+mod top;
 mod walk;
 
 pub use refusals::{Refusal, Status};
-pub use run::wsymb;
+pub use top::wsymb;
 
+#[cfg(test)]
+mod run_tests;
+#[cfg(test)]
+mod test_files;
 #[cfg(test)]
 mod tests;

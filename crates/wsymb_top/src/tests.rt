@@ -1,21 +1,10 @@
 //! Whole commands over memory.
 
+use crate::test_files::{NO_MISS, ONE_LINE, Symbol, THREE_SETS, elf_of, file, files_of, words_of};
 use crate::wsymb;
 use std::alloc::{AllocError, Global};
 use std::test::Fail;
 use wsym_io::{MemShelf, MemSink, PlainShelf, PlainSink, ShelfFile};
-
-/// An ELF32 ARM executable with one program header, up to the sizes of its segment.
-static HEAD: [u8; 68] = [
-    0x7f, 0x45, 0x4c, 0x46, 0x01, 0x01, 0x01, 0x00, 0x00, 0x00, 0x00, 0x00, 0x00, 0x00, 0x00, 0x00,
-    0x02, 0x00, 0x28, 0x00, 0x01, 0x00, 0x00, 0x00, 0x00, 0x80, 0x00, 0x00, 0x34, 0x00, 0x00, 0x00,
-    0x00, 0x00, 0x00, 0x00, 0x00, 0x00, 0x00, 0x00, 0x34, 0x00, 0x20, 0x00, 0x01, 0x00, 0x00, 0x00,
-    0x00, 0x00, 0x00, 0x00, 0x01, 0x00, 0x00, 0x00, 0x54, 0x00, 0x00, 0x00, 0x00, 0x80, 0x00, 0x00,
-    0x00, 0x80, 0x00, 0x00,
-];
-
-/// The segment's flags, readable and executable, and its alignment.
-static TAIL: [u8; 8] = [5, 0, 0, 0, 4, 0, 0, 0];
 
 /// The report of two instructions.
 const TWO: &str =
@@ -25,61 +14,36 @@ const TWO: &str =
 const FIVE: &str =
     "wsymb 1\nfunction 0x00008000 stack 4096\ntiming 16 2 16 10 1 1 1 1 1 1 1 1 1 1 1 1 1\nblock 0 0x00008000 5\ntree (seq (leaf 0 5 2048@0 2049@0))\nformula {25|5}\nend\n";
 
+/// The same where the cache has one line: neither use has a scope.
+const FIVE_IN_ONE_LINE: &str =
+    "wsymb 1\nfunction 0x00008000 stack 4096\ntiming 1 1 16 10 1 1 1 1 1 1 1 1 1 1 1 1 1\nblock 0 0x00008000 5\ntree (seq (leaf 0 25))\nformula {|25}\nend\n";
+
 const CROOKED: &str = "refused 38 not straight\n";
 
-const USAGE: &str = "refused 2 usage\n";
+/// Two instructions, and five.
+static SHORT: [u32; 2] = [0xe3a00001, 0xe12fff1e];
 
-/// The file whose code at 0x8000 is these words.
-fn file_of(alloc: Global, code: &[u32]) -> Result<Vec<u8>, AllocError> {
-    let mut size: u32 = 0;
-    for _word in code {
-        size = size.wrapping_add(4);
-    }
-    let size = size.to_le_bytes();
-    let mut bytes = Vec::from_slice(alloc, &HEAD)?;
-    bytes.extend_from_slice(&size)?;
-    bytes.extend_from_slice(&size)?;
-    bytes.extend_from_slice(&TAIL)?;
-    for word in code {
-        bytes.extend_from_slice(&word.to_le_bytes())?;
-    }
-    Ok(bytes)
-}
+static LONGER: [u32; 5] = [0xe3a00001, 0xe2800001, 0xe2800001, 0xe2800001, 0xe12fff1e];
 
-/// A list of one file, named `a.elf`.
-fn files_of(alloc: Global, code: &[u32]) -> Result<Vec<ShelfFile>, AllocError> {
-    let mut files = Vec::new(alloc);
-    files.push(ShelfFile {
-        name: String::from_str(alloc, "a.elf")?,
-        bytes: file_of(alloc, code)?,
-    })?;
-    Ok(files)
-}
-
-fn words_of(alloc: Global, words: &[&str]) -> Result<Vec<String>, AllocError> {
-    let mut all = Vec::new(alloc);
-    for word in words {
-        all.push(String::from_str(alloc, word)?)?;
-    }
-    Ok(all)
-}
-
-/// The status and the text of a command over a shelf and a sink that never fail.
-fn answer(alloc: Global, words: &[&str], code: &[u32]) -> Result<(u8, Vec<u8>), AllocError> {
+/// The status and the text of a command over a shelf and a sink that never fail, without probes.
+fn answer(
+    alloc: Global,
+    words: &[&str],
+    files: Vec<ShelfFile>,
+) -> Result<(u8, Vec<u8>), AllocError> {
     let words = words_of(alloc, words)?;
-    let mut shelf = PlainShelf::new(files_of(alloc, code)?);
+    let mut shelf = PlainShelf::new(files);
     let mut out = PlainSink::new(alloc);
-    let status = wsymb(alloc, &words, &mut shelf, &mut out);
+    let status = wsymb(alloc, &words, &mut shelf, &mut out, Vec::new(alloc));
     Ok((status, Vec::from_slice(alloc, out.written())?))
 }
 
 #[test]
 fn analyses_straight_functions(rt: HostRuntime) -> Result<(), Fail> {
-    let words = ["analyse", "a.elf", "unit", "0x8000"];
-    let five = [0xe3a00001, 0xe2800001, 0xe2800001, 0xe2800001, 0xe12fff1e];
+    let alloc = rt.alloc();
     let table: [(&[u32], u8, &str); 16] = [
-        (&[0xe3a00001, 0xe12fff1e], 0, TWO),
-        (&five, 0, FIVE),
+        (&SHORT, 0, TWO),
+        (&LONGER, 0, FIVE),
         // MOV r15,r14 as the end.
         (&[0xe3a00001, 0xe1a0f00e], 0, TWO),
         // Shifts by a constant amount, and a test.
@@ -110,7 +74,8 @@ fn analyses_straight_functions(rt: HostRuntime) -> Result<(), Fail> {
         (&[0xe12fff10], 38, CROOKED),
     ];
     for (code, status, text) in table {
-        let found = answer(rt.alloc(), &words, code)?;
+        let files = files_of(alloc, code, &[], ONE_LINE)?;
+        let found = answer(alloc, &["analyse", "a.elf", "unit", "0x8000"], files)?;
         assert_eq!(rt; found.0, status, "status, {text}");
         assert_eq!(rt; found.1.as_slice(), text.as_bytes());
     }
@@ -118,27 +83,78 @@ fn analyses_straight_functions(rt: HostRuntime) -> Result<(), Fail> {
 }
 
 #[test]
-fn refuses_every_front_of_a_file(rt: HostRuntime) -> Result<(), Fail> {
+fn reads_timing_files(rt: HostRuntime) -> Result<(), Fail> {
     let alloc = rt.alloc();
-    let words = words_of(alloc, &["analyse", "a.elf", "unit", "0x8000"])?;
-    let whole = file_of(alloc, &[0xe3a00001, 0xe12fff1e])?;
+    let bad = "refused 20 bad timing file\n";
+    let table: [(&str, &str, u8, &str); 6] = [
+        ("0x8000", ONE_LINE, 0, FIVE_IN_ONE_LINE),
+        ("f", ONE_LINE, 0, FIVE_IN_ONE_LINE),
+        ("f", THREE_SETS, 20, bad),
+        ("0x9000", NO_MISS, 20, bad),
+        ("f", "", 20, bad),
+        // The name comes before the timing.
+        ("g", THREE_SETS, 13, "refused 13 no such function\n"),
+    ];
+    for (function, timing, status, text) in table {
+        let files = files_of(alloc, &LONGER, &[("f", 0x8000)], timing)?;
+        let found = answer(alloc, &["analyse", "a.elf", "t.json", function], files)?;
+        assert_eq!(rt; found.0, status, "status, {text}");
+        assert_eq!(rt; found.1.as_slice(), text.as_bytes());
+    }
+    Ok(())
+}
+
+#[test]
+fn finds_functions_by_name(rt: HostRuntime) -> Result<(), Fail> {
+    let alloc = rt.alloc();
+    let twice = "refused 14 two such functions\n";
+    let thumb = "refused 15 Thumb code\n";
+    let outside = "refused 32 outside code at 0x00008002\n";
+    let table: [(&str, &[Symbol], u8, &str); 8] = [
+        ("f", &[("g", 0x8004), ("f", 0x8000)], 0, TWO),
+        ("f", &[("f", 0x8000), ("f", 0x8000)], 0, TWO),
+        ("0x800g", &[("0x800g", 0x8000)], 0, TWO),
+        ("", &[("f", 0x8000)], 13, "refused 13 no such function\n"),
+        ("f", &[("f", 0x8000), ("f", 0x8004)], 14, twice),
+        ("f", &[("f", 0x8001), ("f", 0x8000)], 14, twice),
+        ("f", &[("f", 0x8001)], 15, thumb),
+        ("f", &[("f", 0x8002)], 32, outside),
+    ];
+    for (function, symbols, status, text) in table {
+        let files = files_of(alloc, &SHORT, symbols, ONE_LINE)?;
+        let found = answer(alloc, &["analyse", "a.elf", "unit", function], files)?;
+        assert_eq!(rt; found.0, status, "status, {text}");
+        assert_eq!(rt; found.1.as_slice(), text.as_bytes());
+    }
+    Ok(())
+}
+
+#[test]
+fn refuses_bad_files(rt: HostRuntime) -> Result<(), Fail> {
+    let alloc = rt.alloc();
+    let whole = elf_of(alloc, 1, &SHORT, &[])?;
     for size in 0..whole.len() {
         let mut files = Vec::new(alloc);
-        files.push(ShelfFile {
-            name: String::from_str(alloc, "a.elf")?,
-            bytes: Vec::from_slice(alloc, &whole[..size])?,
-        })?;
-        let mut shelf = PlainShelf::new(files);
-        let mut out = PlainSink::new(alloc);
-        let status = wsymb(alloc, &words, &mut shelf, &mut out);
-        let (due, line) = if size < 52 {
+        files.push(file(alloc, "a.elf", &whole[..size])?)?;
+        let found = answer(alloc, &["analyse", "a.elf", "unit", "0x8000"], files)?;
+        let (status, line) = if size < 52 {
             (10, "refused 10 not an ELF32 ARM executable\n")
         } else {
             (11, "refused 11 truncated\n")
         };
-        assert_eq!(rt; status, due, "{size} bytes");
-        assert_eq!(rt; out.written(), line.as_bytes());
+        assert_eq!(rt; found.0, status, "{size} bytes");
+        assert_eq!(rt; found.1.as_slice(), line.as_bytes());
     }
+    // Two equal program headers; the timing, which is bad too, comes later.
+    let mut files = Vec::new(alloc);
+    files.push(file(alloc, "a.elf", elf_of(alloc, 2, &SHORT, &[])?.as_slice())?)?;
+    files.push(file(alloc, "t.json", THREE_SETS.as_bytes())?)?;
+    let found = answer(alloc, &["analyse", "a.elf", "t.json", "f"], files)?;
+    assert_eq!(rt; found.0, 12);
+    assert_eq!(rt;
+        found.1.as_slice(),
+        b"refused 12 segments overlap\n".as_slice()
+    );
     Ok(())
 }
 
@@ -148,9 +164,11 @@ fn walks_along_100_instructions_at_most(rt: HostRuntime) -> Result<(), Fail> {
     let words = ["analyse", "a.elf", "unit", "0x8000"];
     let mut code = vec![in alloc; 0xe2800001_u32; 99]?;
     code.push(0xe12fff1e)?;
-    assert_eq!(rt; answer(alloc, &words, code.as_slice())?.0, 0);
+    let files = files_of(alloc, code.as_slice(), &[], ONE_LINE)?;
+    assert_eq!(rt; answer(alloc, &words, files)?.0, 0);
     code.insert(0, 0xe2800001)?;
-    let found = answer(alloc, &words, code.as_slice())?;
+    let files = files_of(alloc, code.as_slice(), &[], ONE_LINE)?;
+    let found = answer(alloc, &words, files)?;
     assert_eq!(rt; found.0, 38);
     assert_eq!(rt; found.1.as_slice(), CROOKED.as_bytes());
     Ok(())
@@ -158,21 +176,20 @@ fn walks_along_100_instructions_at_most(rt: HostRuntime) -> Result<(), Fail> {
 
 #[test]
 fn refuses_wrong_words(rt: HostRuntime) -> Result<(), Fail> {
-    let table: [(&[&str], u8, &str); 9] = [
-        (&[], 2, USAGE),
-        (&["analyse", "a.elf", "unit"], 2, USAGE),
-        (&["analyse", "a.elf", "unit", "0x8000", "more"], 2, USAGE),
-        (&["Analyse", "a.elf", "unit", "0x8000"], 2, USAGE),
-        (&["analyse", "a=elf", "unit", "0x8000"], 2, USAGE),
-        (&["analyse", "a.elf", "unit", "0x"], 2, USAGE),
-        (&["analyse", "a.elf", "unit", "0x000008000"], 2, USAGE),
-        (&["analyse", "a.elf", "unit", "0X8000"], 2, USAGE),
-        (&["analyse", "a.elf", "unit", "0x0000800g"], 2, USAGE),
+    let alloc = rt.alloc();
+    let table: [&[&str]; 7] = [
+        &[],
+        &["analyse", "a.elf", "unit"],
+        &["analyse", "a.elf", "unit", "0x8000", "more"],
+        &["Analyse", "a.elf", "unit", "0x8000"],
+        &["analyse", "a=elf", "unit", "0x8000"],
+        &["analyse", "a.elf", "unit", "0x8000", "n=r0=1"],
+        &["run", "a.elf", "unit", "0x8000", "n=r13=1"],
     ];
-    for (words, status, text) in table {
-        let found = answer(rt.alloc(), words, &[0xe12fff1e])?;
-        assert_eq!(rt; found.0, status);
-        assert_eq!(rt; found.1.as_slice(), text.as_bytes());
+    for words in table {
+        let found = answer(alloc, words, files_of(alloc, &SHORT, &[], ONE_LINE)?)?;
+        assert_eq!(rt; found.0, 2);
+        assert_eq!(rt; found.1.as_slice(), b"refused 2 usage\n".as_slice());
     }
     Ok(())
 }
@@ -180,11 +197,23 @@ fn refuses_wrong_words(rt: HostRuntime) -> Result<(), Fail> {
 #[test]
 fn tells_a_fault_of_the_shelf(rt: HostRuntime) -> Result<(), Fail> {
     let alloc = rt.alloc();
-    let words = words_of(alloc, &["analyse", "a.elf", "unit", "0x8000"])?;
-    let mut shelf = MemShelf::new(files_of(alloc, &[0xe12fff1e])?, vec![in alloc; 0]?);
-    let mut out = PlainSink::new(alloc);
-    assert_eq!(rt; wsymb(alloc, &words, &mut shelf, &mut out), 3);
-    assert_eq!(rt; out.written(), b"refused 3 read fault\n".as_slice());
+    let table: [(&str, u64, u8); 4] = [
+        ("unit", 0, 3),
+        ("unit", 1, 0),
+        ("t.json", 0, 3),
+        ("t.json", 1, 3),
+    ];
+    for (timing, failing, status) in table {
+        let words = words_of(alloc, &["analyse", "a.elf", timing, "0x8000"])?;
+        let files = files_of(alloc, &SHORT, &[], ONE_LINE)?;
+        let mut shelf = MemShelf::new(files, vec![in alloc; failing]?);
+        let mut out = PlainSink::new(alloc);
+        let found = wsymb(alloc, &words, &mut shelf, &mut out, Vec::new(alloc));
+        assert_eq!(rt; found, status);
+        if status == 3 {
+            assert_eq!(rt; out.written(), b"refused 3 read fault\n".as_slice());
+        }
+    }
     Ok(())
 }
 
@@ -192,9 +221,10 @@ fn tells_a_fault_of_the_shelf(rt: HostRuntime) -> Result<(), Fail> {
 fn leaves_a_front_where_the_sink_fails(rt: HostRuntime) -> Result<(), Fail> {
     let alloc = rt.alloc();
     let words = words_of(alloc, &["analyse", "a.elf", "unit", "0x8000"])?;
-    let mut shelf = PlainShelf::new(files_of(alloc, &[0xe3a00001, 0xe12fff1e])?);
+    let mut shelf = PlainShelf::new(files_of(alloc, &SHORT, &[], ONE_LINE)?);
     let mut out = MemSink::new(alloc, 8, vec![in alloc; 5]?);
-    assert_eq!(rt; wsymb(alloc, &words, &mut shelf, &mut out), 4);
+    let found = wsymb(alloc, &words, &mut shelf, &mut out, Vec::new(alloc));
+    assert_eq!(rt; found, 4);
     assert_eq!(rt;
         out.written(),
         b"wsymb 1\nfunction 0x00008000 stack 4096\nt".as_slice()

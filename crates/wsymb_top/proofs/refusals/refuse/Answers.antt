@@ -1,6 +1,6 @@
 use Rattle.std.proofs.Common.{ℕ, List, inr, subst}
 use Rattle.wsymb_top.specs.declared.refusals.Refusal.TheVariants as refusal
-use Rattle.wsymb_top.specs.Outcomes.{IsDelivered, Writing}
+use Rattle.wsymb_top.specs.Answers.{IsDelivered, Writing}
 use Rattle.wsymb_top.specs.Refusals.{line_of}
 use Rattle.wsymb_top.proofs.refusals.refuse.Goals as goal
 

@@ -1,9 +1,0 @@
-use Rattle.std.proofs.Common.{◌≡◌, ◌<◌, ◌^◌, drop}
-use Rattle.wsymb_top.specs.Commands.{hex_after}
-use Rattle.wsymb_top.proofs.commands.hex_number.Given as goal
-
-abbrev pub invariant-loop-digit : goal.invariant-loop-digit
-invariant-loop-digit l = record {
-  rest : hex_after l.value (drop l.digit-index l.digits) ≡ hex_after 0 l.digits;
-  small : l.value < 16 ^ l.digit-index;
-}
