@@ -19,6 +19,7 @@ mod faulty;
 mod shelves;
 mod sinks;
 mod steady;
+mod streams;
 mod system;
 
 pub use faulty::{MemShelf, MemSink};

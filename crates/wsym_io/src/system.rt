@@ -2,19 +2,16 @@
 //!
 //! What the system's files hold and what standard output shows is trusted: both tell nothing.
 
-ghost use Rattle.std.specs.Prelude.{◌≡◌, ℕ, ◌+◌, ◌-◌, ◌^◌, ◌<◌, ◌≤◌, min, None, List, length, IfOk, OnOk, OnErr, IsErrOf};
-ghost use Rattle.wsym_io.specs.Io.{raised, Rose};
+ghost use Rattle.std.specs.Prelude.{◌≡◌, ℕ, ◌+◌, ◌-◌, ◌^◌, ◌<◌, ◌≤◌, min, None, List, length, take, IfOk, OnOk, OnErr, IsErrOf};
+ghost use Rattle.wsym_io.specs.Io.{raised, Rose, IfTold};
 
 use crate::shelves::{Shelf, ShelfFault};
 use crate::sinks::{Sink, SinkFault};
+use crate::streams::{read_first, write_first};
 use std::alloc::Global;
-use std::fs;
-use std::io::Read;
 use std::marker::Model;
 use std::rt::Files;
-
-/// The bytes that one read asks for, at most.
-const BLOCK: usize = 65_536;
+use std::{fs, io};
 
 /// The system's files, by their paths. It tells no content, and is seen as its count of faults.
 #[derive(Drop)]
@@ -48,6 +45,7 @@ impl<'a, R: Files> Shelf for FileShelf<'a, R> {
     /// The bytes of the file, up to its end or to `most` bytes. Each error raises the count of faults.
     fn read_all(&mut self, alloc: Global, name: &str, most: u64) -> Result<Vec<u8>, ShelfFault>
         ensures short { IfOk result (λ bytes. length bytes.items ≤ most) }
+        ensures opened { IfOk result (λ bytes. (file : R.File) × IfTold (R.File.remaining file) (λ given. bytes.items ≡ take most given)) }
         ensures ok { OnOk result (self.new ≡ self.old) }
         ensures err { OnErr result (self.new ≡ raised self.old) }
         ensures later { self.old ≤ self.new }
@@ -61,23 +59,13 @@ impl<'a, R: Files> Shelf for FileShelf<'a, R> {
     }
 }
 
+/// The file that is opened by that name is read, and no bytes come without one.
 fn read_file<R: Files>(rt: &R, alloc: Global, name: &str, most: u64) -> Result<Vec<u8>, ShelfFault>
-    ensures { IfOk result (λ bytes. length bytes.items ≤ most) }
+    ensures short { IfOk result (λ bytes. length bytes.items ≤ most) }
+    ensures opened { IfOk result (λ bytes. (file : R.File) × IfTold (R.File.remaining file) (λ given. bytes.items ≡ take most given)) }
 {
     let mut file = fs::open(rt, name)?;
-    let mut block = vec![in alloc; 0; BLOCK]?;
-    let mut bytes = Vec::new(alloc);
-    let mut room = most;
-    while room > 0 {
-        let size = room.min(BLOCK as u64) as usize;
-        let count = file.read(&mut block[..size])?;
-        if count == 0 {
-            break;
-        }
-        bytes.extend_from_slice(&block[..count])?;
-        room -= count as u64;
-    }
-    Ok(bytes)
+    read_first(&mut file, alloc, most)
 }
 
 /// Standard output. It tells no contents, and is seen as its count of faults.
@@ -120,20 +108,10 @@ impl<'a, R: Print> Sink for StdoutSink<'a, R> {
         ensures later { self.old ≤ self.new }
         ensures failed { IsErrOf result SinkFault.Failed → Rose self.old self.new }
     {
-        let count = print_some(self.rt, piece);
+        let count = write_first(&mut io::writer(self.rt), piece);
         if count.is_err() {
             self.faults = self.faults.saturating_add(1);
         }
         count
-    }
-}
-
-fn print_some<R: Print>(rt: &R, piece: &[u8]) -> Result<usize, SinkFault>
-    ensures some { IfOk result (λ count. 0 < count) }
-    ensures within { IfOk result (λ count. count ≤ length piece.now) }
-{
-    match rt.write_some(piece)? {
-        0 => Err(SinkFault::Failed),
-        count => Ok(count),
     }
 }

@@ -1,7 +1,9 @@
 use super::*;
 use std::alloc::{AllocError, Global};
-use std::fs;
+use std::cell::{Cell, RefCell};
+use std::fmt::Display;
 use std::test::Fail;
+use std::{fs, io};
 
 /// The files `a`, `empty` and a second `a`, which no call reads.
 fn three_files(alloc: Global) -> Result<Vec<ShelfFile>, AllocError> {
@@ -92,21 +94,98 @@ fn a_plain_sink_takes_all(rt: HostRuntime) -> Result<(), Fail> {
     Ok(())
 }
 
-/// A file of more than one block.
+/// A runtime that takes at most `most` bytes a call, keeps them, and fails at one call.
+#[derive(Drop)]
+struct Paper {
+    most: usize,
+    failing: u64,
+    calls: Cell<u64>,
+    taken: RefCell<Vec<u8>>,
+}
+
+impl Print for Paper {
+    fn print<D: Display + Drop>(&self, _value: D) -> io::Result<()> {
+        Err(io::Error::from(io::ErrorKind::Unsupported))
+    }
+
+    fn println<D: Display + Drop>(&self, _value: D) -> io::Result<()> {
+        Err(io::Error::from(io::ErrorKind::Unsupported))
+    }
+
+    fn write_all(&self, _bytes: &[u8]) -> io::Result<()> {
+        Err(io::Error::from(io::ErrorKind::Unsupported))
+    }
+
+    fn write_some(&self, bytes: &[u8]) -> io::Result<usize> {
+        let call = self.calls.get();
+        self.calls.set(call.saturating_add(1));
+        let count = self.most.min(bytes.len());
+        match self.taken.try_borrow_mut() {
+            Ok(mut taken) if call != self.failing => taken.extend_from_slice(&bytes[..count])?,
+            _ => return Err(io::Error::from(io::ErrorKind::BrokenPipe)),
+        }
+        Ok(count)
+    }
+}
+
+#[test]
+fn standard_output_gets_each_byte(rt: HostRuntime) -> Result<(), Fail> {
+    for (most, failing, done, want) in [
+        (8, 9, true, "a long enough text"),
+        (1, 99, true, "a long enough text"),
+        (99, 1, true, "a long enough text"),
+        (8, 0, false, ""),
+        (8, 2, false, "a long enough te"),
+        (0, 9, false, ""),
+    ] {
+        let paper = Paper {
+            most,
+            failing,
+            calls: Cell::new(0),
+            taken: RefCell::new(Vec::new(rt.alloc())),
+        };
+        let result = write_all(&mut StdoutSink::new(&paper), b"a long enough text");
+        assert_eq!(rt;
+            result.is_ok(),
+            done,
+            "{most} bytes a call, failing at {failing}"
+        );
+        assert!(rt; result != Err(SinkFault::Memory));
+        let taken = paper.taken.into_inner();
+        assert_eq!(rt; taken.as_slice(), want.as_bytes());
+    }
+    Ok(())
+}
+
+/// Files about as long as the blocks in which they are read, whole and cut.
 #[test]
 fn a_file_is_written_and_read_back(rt: HostRuntime) -> Result<(), Fail> {
     let name = "wsym_io_written.tmp";
-    let mut bytes = vec![in rt.alloc(); 7u8; 150_000]?;
-    bytes.push(9)?;
-    fs::write(&rt, name, bytes.as_slice())?;
     let mut shelf = FileShelf::new(&rt);
-    let whole = shelf.read_all(rt.alloc(), name, 67_108_865);
-    let cut = shelf.read_all(rt.alloc(), name, 100_000);
+    for (length, most, want) in [
+        (0u32, 9, 0),
+        (1, 0, 0),
+        (1, 1, 1),
+        (1, 9, 1),
+        (65_535, 65_536, 65_535),
+        (65_536, 65_535, 65_535),
+        (65_536, 65_536, 65_536),
+        (65_536, 65_537, 65_536),
+        (65_537, 65_536, 65_536),
+        (65_537, 65_537, 65_537),
+        (150_000, 100_000, 100_000),
+        (150_000, 67_108_865, 150_000),
+    ] {
+        let mut bytes = Vec::new(rt.alloc());
+        for place in 0..length {
+            bytes.push((place % 251) as u8)?;
+        }
+        fs::write(&rt, name, bytes.as_slice())?;
+        let read = shelf.read_all(rt.alloc(), name, most)?;
+        assert_eq!(rt; read.len(), want, "{length} bytes up to {most}");
+        assert!(rt; bytes.as_slice().starts_with(read.as_slice()));
+    }
     fs::remove_file(&rt, name)?;
-    let cut = cut?;
-    assert_eq!(rt; cut.len(), 100_000);
-    assert!(rt; bytes.as_slice().starts_with(cut.as_slice()));
-    assert!(rt; whole? == bytes);
     let absent = shelf.read_all(rt.alloc(), name, 9);
     assert!(rt; absent.err() == Some(ShelfFault::Failed));
     Ok(())
