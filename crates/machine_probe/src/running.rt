@@ -1,10 +1,10 @@
 //! Runs of a machine with probes.
 
-ghost use Rattle.std.specs.Prelude.{◌≡◌, ◌<◌, ◌^◌, List, length, map, position};
-ghost use Rattle.std.specs.Option.{option_or};
+ghost use Rattle.std.specs.Prelude.{◌≡◌, ◌<◌, ◌^◌, if◌then◌else◌, None, Some, List, length, map, position};
+ghost use Rattle.std.specs.Option.{is_some, option_or};
 ghost use Rattle.arm_machine.specs.Steps.{step};
 ghost use Rattle.arm_machine.specs.declared.events.Event.{Event as EventValue};
-ghost use Rattle.machine_probe.specs.Weights.{AreReady, HaveRoom, go_by, is_over, place_if, seen};
+ghost use Rattle.machine_probe.specs.Weights.{AreReady, HaveRoom, is_over, seen};
 ghost use Rattle.machine_probe.specs.ProbedRuns.{Advances, IsReturningRun, Ran};
 
 use crate::probing::Probe;
@@ -39,40 +39,93 @@ pub enum RunEnd {
     Memory,
 }
 
-/// Shows an event to a probe.
-fn show_one(probe: &mut Box<dyn Probe>, event: &Event) -> Go
+/// Shows an event to a probe, and tells whether it answers `Stop`.
+fn show_one(probe: &mut Box<dyn Probe>, event: &Event) -> bool
     requires { (standing probe.old).tally < 2 ^ 127 }
 
     ensures counts { standing probe.new ≡ seen event.now (standing probe.old) }
-    ensures answers { result ≡ go_by (standing probe.new) }
+    ensures answers { result ≡ is_over (standing probe.new) }
 {
-    probe.see(event)
-}
-
-/// The least place of a probe that answered `Stop`, after one more answer.
-fn least(halting: Option<u32>, go: Go, place: usize) -> Option<u32>
-    requires { place < 2 ^ 32 }
-    ensures { result ≡ option_or halting (place_if go place) }
-{
-    match (halting, go) {
-        (None, Go::Stop) => Some(place as u32),
-        _ => halting,
+    match probe.see(event) {
+        Go::On => false,
+        Go::Stop => true,
     }
 }
 
-/// Shows an event to all probes, and tells the least place of one that answered `Stop`.
-fn show(probes: &mut [Box<dyn Probe>], event: &Event) -> Option<u32>
+/// Shows an event to all probes, and tells whether one of them answers `Stop`.
+fn show(probes: &mut [Box<dyn Probe>], event: &Event) -> bool
+    requires { HaveRoom (map standing probes.old) }
+
+    ensures counts { map standing probes.new ≡ map (seen event.now) (map standing probes.old) }
+    ensures stops { result ≡ is_some (position is_over (map standing probes.new)) }
+{
+    let mut stops = false;
+    for probe in probes.iter_mut() {
+        stops |= show_one(probe, event);
+    }
+    stops
+}
+
+/// Whether a probe's tally is greater than its limit.
+fn is_over(probe: &Box<dyn Probe>) -> bool
+    ensures { result ≡ is_over (standing probe.now) }
+{
+    probe.tally() > probe.rule().limit
+}
+
+/// The least place of a probe that is over its limit, after one more probe.
+fn least(first: Option<u32>, over: bool, place: usize) -> Option<u32>
+    requires { place < 2 ^ 32 }
+    ensures { result ≡ option_or first (if over then Some place else None) }
+{
+    match (first, over) {
+        (None, true) => Some(place as u32),
+        _ => first,
+    }
+}
+
+/// The least place of a probe whose tally is greater than its limit. A run asks this once, after its last event.
+#[cold]
+#[inline(never)]
+fn first_over(probes: &[Box<dyn Probe>]) -> Option<u32>
+    requires { length probes.now < 2 ^ 32 }
+    ensures { result ≡ position is_over (map standing probes.now) }
+{
+    let mut first = None;
+    for (place, probe) in probes.iter().enumerate() {
+        first = least(first, is_over(probe), place);
+    }
+    first
+}
+
+/// Shows an event to all probes, and tells the least place of one that answers `Stop`.
+fn halting(probes: &mut [Box<dyn Probe>], event: &Event) -> Option<u32>
     requires few { length probes.old < 2 ^ 32 }
     requires small { HaveRoom (map standing probes.old) }
 
     ensures counts { map standing probes.new ≡ map (seen event.now) (map standing probes.old) }
     ensures least { result ≡ position is_over (map standing probes.new) }
 {
-    let mut halting = None;
-    for (place, probe) in probes.iter_mut().enumerate() {
-        halting = least(halting, show_one(probe, event), place);
+    if show(probes, event) {
+        first_over(probes)
+    } else {
+        None
     }
-    halting
+}
+
+/// The event of a step that was just made, copied field by field. To copy it as a whole would be to read at once what the
+/// step has written piece by piece, and the processor would wait until these writes are done.
+#[inline(always)]
+fn copied(made: Event) -> Event
+    ensures { result ≡ made }
+{
+    Event {
+        address: made.address,
+        done: made.done,
+        class: made.class,
+        miss: made.miss,
+        cycles: made.cycles,
+    }
 }
 
 /// Makes a step, and shows its event to all probes: what it cost where the run may go on, else how the run ends.
@@ -83,10 +136,13 @@ fn advance(machine: &mut Machine<'_>, probes: &mut Vec<Box<dyn Probe>>) -> Resul
     ensures { Advances (step machine.old.image machine.old.timing machine.old.state) machine.old machine.new (map standing probes.old.items) (map standing probes.new.items) result }
 {
     match machine.step() {
-        Ok(event) => match show(probes, &event) {
-            Some(probe) => Err(RunEnd::Halted { probe }),
-            None => Ok(event.cycles),
-        },
+        Ok(made) => {
+            let event = copied(made);
+            match halting(probes, &event) {
+                Some(probe) => Err(RunEnd::Halted { probe }),
+                None => Ok(event.cycles),
+            }
+        }
         Err(StepEnd::Stop(stop)) => Err(RunEnd::Stopped {
             stop,
             address: machine.pc(),
