@@ -1,4 +1,4 @@
-/* Two functions with a loop each, linked with the program headers that the linker makes by default. */
+/* Two functions with a loop each and one without, linked with the program headers that the linker makes by default. */
 unsigned sum_to(unsigned last)
 {
     unsigned sum = 0;
@@ -14,4 +14,10 @@ unsigned greatest(const unsigned *numbers, unsigned count)
         if (numbers[place] > most)
             most = numbers[place];
     return most;
+}
+
+/* One without any branch: half the sum of two numbers, rounded down. */
+unsigned middle(unsigned first, unsigned second)
+{
+    return (first & second) + ((first ^ second) >> 1);
 }
