@@ -2,14 +2,13 @@
 //! standard output.
 #![tactic(auto)]
 
-mod probes;
+mod command;
 mod words;
 
-use crate::probes::counters;
+use crate::command::run_command;
 use crate::words::{WordsError, given_words};
 use std::process::ExitCode;
-use wsym_io::{FileShelf, StdoutSink};
-use wsymb_top::{Status, wsymb};
+use wsymb_top::Status;
 
 /// The status where memory for the words or the probes was refused.
 const NO_MEMORY: Status = 1;
@@ -19,12 +18,8 @@ const NO_WORDS: Status = 6;
 
 fn main(rt: HostRuntime) -> ExitCode {
     let status = match given_words(&rt) {
-        Ok(words) => match counters(rt.alloc()) {
-            Ok(probes) => {
-                let mut shelf = FileShelf::new(&rt);
-                let mut out = StdoutSink::new(&rt);
-                wsymb(rt.alloc(), &words, &mut shelf, &mut out, probes)
-            }
+        Ok(words) => match run_command(&rt, &words) {
+            Ok(status) => status,
             Err(_) => NO_MEMORY,
         },
         Err(WordsError::Memory) => NO_MEMORY,
