@@ -25,11 +25,15 @@ impl Weigh {
     pub fn of(self, event: &Event) -> u64
         ensures { result ≡ weight_by self event.now }
     {
-        match self {
-            Weigh::Steps => 1,
-            Weigh::Misses => u64::from(event.miss),
-            Weigh::Cycles => event.cycles,
-            Weigh::OfClass(class) => u64::from(event.class == class),
+        if matches!(self, Weigh::Steps) {
+            1
+        } else if matches!(self, Weigh::Misses) {
+            u64::from(event.miss)
+        } else {
+            match self {
+                Weigh::OfClass(class) => u64::from(event.class == class),
+                _ => event.cycles,
+            }
         }
     }
 }

@@ -99,15 +99,15 @@ fn first_over(probes: &[Box<dyn Probe>]) -> Option<u32>
 }
 
 /// Shows an event to all probes, and tells the least place of one that answers `Stop`.
-fn halting(probes: &mut [Box<dyn Probe>], event: &Event) -> Option<u32>
-    requires few { length probes.old < 2 ^ 32 }
-    requires small { HaveRoom (map standing probes.old) }
+fn halting(probes: &mut Vec<Box<dyn Probe>>, event: &Event) -> Option<u32>
+    requires few { length probes.old.items < 2 ^ 32 }
+    requires small { HaveRoom (map standing probes.old.items) }
 
-    ensures counts { map standing probes.new ≡ map (seen event.now) (map standing probes.old) }
-    ensures least { result ≡ position is_over (map standing probes.new) }
+    ensures counts { map standing probes.new.items ≡ map (seen event.now) (map standing probes.old.items) }
+    ensures least { result ≡ position is_over (map standing probes.new.items) }
 {
-    if show(probes, event) {
-        first_over(probes)
+    if show(probes.as_mut_slice(), event) {
+        first_over(probes.as_slice())
     } else {
         None
     }
