@@ -1,6 +1,7 @@
 //! Whole runs over memory.
 
-ghost use Rattle.std.specs.Prelude.{◌≡◌};
+ghost use Rattle.std.specs.Prelude.{◌≡◌, ◌<◌, ◌^◌, IfOk, length, map};
+ghost use Rattle.machine_probe.specs.Weights.{AreReady};
 
 use crate::test_files::{TWO_LINES, files_of, words_of};
 use crate::wsymb;
@@ -38,12 +39,18 @@ static STORE: [u32; 3] = [0xe92d4010, 0xe5830000, 0xe8bd8010];
 
 static SHORT: [u32; 2] = [0xe3a00001, 0xe12fff1e];
 
-fn counter(weigh: Weigh, limit: u128) -> Counter {
+/// A counter that begins at 0.
+fn counter(weigh: Weigh, limit: u128) -> Counter
+    ensures { result.tally ≡ 0 }
+{
     Counter::new(Rule { weigh, limit })
 }
 
 /// Counters of steps, with a limit, of misses and of branches.
-fn probes_of(alloc: Global, limit: u128) -> Result<Vec<Box<dyn Probe>>, AllocError> {
+fn probes_of(alloc: Global, limit: u128) -> Result<Vec<Box<dyn Probe>>, AllocError>
+    ensures few { IfOk result (λ probes. length probes.items < 2 ^ 32) }
+    ensures ready { IfOk result (λ probes. AreReady (map standing probes.items)) }
+{
     let mut probes: Vec<Box<dyn Probe>> = Vec::new(alloc);
     probes.push(Box::new(alloc, counter(Weigh::Steps, limit))?)?;
     probes.push(Box::new(alloc, counter(Weigh::Misses, u128::MAX))?)?;
@@ -52,18 +59,26 @@ fn probes_of(alloc: Global, limit: u128) -> Result<Vec<Box<dyn Probe>>, AllocErr
     Ok(probes)
 }
 
-/// The status and the text of a run of the function at 0x8000, where the counter of steps has a limit.
+/// The words of a run of the function at 0x8000, with options that single spaces part.
+fn run_words(alloc: Global, timing: &str, options: &str) -> Result<Vec<String>, AllocError> {
+    let mut words = words_of(alloc, &["run", "a.elf", timing, "0x8000"])?;
+    if !options.is_empty() {
+        for option in options.split(' ') {
+            words.push(String::from_str(alloc, option)?)?;
+        }
+    }
+    Ok(words)
+}
+
+/// The status and the text of such a run, where the counter of steps has a limit.
 fn answer(
     alloc: Global,
     code: &[u32],
     timing: &str,
-    options: &[&str],
+    options: &str,
     limit: u128,
 ) -> Result<(u8, Vec<u8>), AllocError> {
-    let mut words = words_of(alloc, &["run", "a.elf", timing, "0x8000"])?;
-    for option in options {
-        words.push(String::from_str(alloc, option)?)?;
-    }
+    let words = run_words(alloc, timing, options)?;
     let mut shelf = PlainShelf::new(files_of(alloc, code, &[], TWO_LINES)?);
     let mut out = PlainSink::new(alloc);
     let probes = probes_of(alloc, limit)?;
@@ -74,47 +89,47 @@ fn answer(
 #[test]
 fn runs_functions(rt: HostRuntime) -> Result<(), Fail> {
     let alloc = rt.alloc();
-    let table: [(&[u32], &str, &[&str], &str); 7] = [
+    let table: [(&[u32], &str, &str, &str); 7] = [
         (
             &SHORT,
             "unit",
-            &[],
+            "",
             "returned 2 steps 12 cycles\nprobe 0 2\nprobe 1 1\nprobe 2 0\n",
         ),
         (
             &LOOP,
             "unit",
-            &["n=r0=10"],
+            "n=r0=10",
             "returned 44 steps 64 cycles\nprobe 0 44\nprobe 1 2\nprobe 2 21\n",
         ),
         (
             &LOOP,
             "unit",
-            &["n=r0=0"],
+            "n=r0=0",
             "returned 4 steps 24 cycles\nprobe 0 4\nprobe 1 2\nprobe 2 1\n",
         ),
         (
             &LOOP,
             "unit",
-            &["n=r0=0", "steps=4"],
+            "n=r0=0 steps=4",
             "returned 4 steps 24 cycles\nprobe 0 4\nprobe 1 2\nprobe 2 1\n",
         ),
         (
             &CALL,
             "unit",
-            &[],
+            "",
             "returned 5 steps 29 cycles\nprobe 0 5\nprobe 1 2\nprobe 2 0\n",
         ),
         (
             &ARRAY,
             "unit",
-            &["a=r0=536868864", "n=r1=3", "m=r2=4"],
+            "a=r0=536868864 n=r1=3 m=r2=4",
             "returned 123 steps 195 cycles\nprobe 0 123\nprobe 1 6\nprobe 2 19\n",
         ),
         (
             &NEST,
             "t.json",
-            &["n=r0=2"],
+            "n=r0=2",
             "returned 34 steps 104 cycles\nprobe 0 34\nprobe 1 7\nprobe 2 15\n",
         ),
     ];
@@ -129,67 +144,26 @@ fn runs_functions(rt: HostRuntime) -> Result<(), Fail> {
 #[test]
 fn refuses_runs(rt: HostRuntime) -> Result<(), Fail> {
     let alloc = rt.alloc();
-    let table: [(&[u32], &[&str], u128, u8, &str); 11] = [
-        (
-            &SHORT,
-            &["sp=0x20000002"],
-            9,
-            70,
-            "refused 70 bad start sp unaligned\n",
-        ),
-        (
-            &SHORT,
-            &["sp=0x7fffffc0"],
-            9,
-            70,
-            "refused 70 bad start sp out of range\n",
-        ),
-        (
-            &SHORT,
-            &["sp=0x80000ffc"],
-            9,
-            70,
-            "refused 70 bad start sp out of range\n",
-        ),
-        (
-            &SHORT,
-            &["sp=0x9000"],
-            9,
-            70,
-            "refused 70 bad start stack loaded\n",
-        ),
-        (
-            &STORE,
-            &["x=r3=536870908"],
-            9,
-            71,
-            "refused 71 stopped Trespass at 0x00008004\n",
-        ),
-        (
-            &[0xe10f0000],
-            &[],
-            9,
-            71,
-            "refused 71 stopped BadWord at 0x00008000\n",
-        ),
-        (
-            &[0xe3a00001],
-            &[],
-            9,
-            71,
-            "refused 71 stopped NoCode at 0x00008004\n",
-        ),
-        (
-            &LOOP,
-            &["n=r0=10", "steps=5"],
-            9,
-            72,
-            "refused 72 spent 5\n",
-        ),
-        (&LOOP, &["n=r0=0", "steps=3"], 9, 72, "refused 72 spent 3\n"),
-        (&LOOP, &["n=r0=10"], 3, 73, "refused 73 halted by probe 0\n"),
+    let unaligned = "refused 70 bad start sp unaligned\n";
+    let out_of_range = "refused 70 bad start sp out of range\n";
+    let loaded = "refused 70 bad start stack loaded\n";
+    let trespass = "refused 71 stopped Trespass at 0x00008004\n";
+    let bad_word = "refused 71 stopped BadWord at 0x00008000\n";
+    let no_code = "refused 71 stopped NoCode at 0x00008004\n";
+    let halted = "refused 73 halted by probe 0\n";
+    let table: [(&[u32], &str, u128, u8, &str); 11] = [
+        (&SHORT, "sp=0x20000002", 9, 70, unaligned),
+        (&SHORT, "sp=0x7fffffc0", 9, 70, out_of_range),
+        (&SHORT, "sp=0x80000ffc", 9, 70, out_of_range),
+        (&SHORT, "sp=0x9000", 9, 70, loaded),
+        (&STORE, "x=r3=536870908", 9, 71, trespass),
+        (&[0xe10f0000], "", 9, 71, bad_word),
+        (&[0xe3a00001], "", 9, 71, no_code),
+        (&LOOP, "n=r0=10 steps=5", 9, 72, "refused 72 spent 5\n"),
+        (&LOOP, "n=r0=0 steps=3", 9, 72, "refused 72 spent 3\n"),
+        (&LOOP, "n=r0=10", 3, 73, halted),
         // The last step returns, and a probe halts the run by it.
-        (&SHORT, &[], 1, 73, "refused 73 halted by probe 0\n"),
+        (&SHORT, "", 1, 73, halted),
     ];
     for (code, options, limit, status, text) in table {
         let found = answer(alloc, code, "unit", options, limit)?;
@@ -222,23 +196,27 @@ impl Probe for Holder {
     }
 }
 
+/// How many hold a token that a probe holds too, before a command and after it.
+fn holders(alloc: Global, command: &str) -> Result<(usize, usize), AllocError> {
+    let token = Rc::new(alloc, 0u32)?;
+    let mut probes: Vec<Box<dyn Probe>> = Vec::new(alloc);
+    let holder = Holder {
+        counter: counter(Weigh::Steps, 9),
+        _token: token.clone()?,
+    };
+    probes.push(Box::new(alloc, holder)?)?;
+    let before = Rc::strong_count(&token);
+    let words = words_of(alloc, &[command, "a.elf", "unit", "0x8000"])?;
+    let mut shelf = PlainShelf::new(files_of(alloc, &SHORT, &[], TWO_LINES)?);
+    let mut out = PlainSink::new(alloc);
+    wsymb(alloc, &words, &mut shelf, &mut out, probes);
+    Ok((before, Rc::strong_count(&token)))
+}
+
 #[test]
 fn drops_the_probes(rt: HostRuntime) -> Result<(), Fail> {
-    let alloc = rt.alloc();
     for command in ["run", "analyse", "other"] {
-        let token = Rc::new(alloc, 0u32)?;
-        let mut probes: Vec<Box<dyn Probe>> = Vec::new(alloc);
-        let holder = Holder {
-            counter: counter(Weigh::Steps, 9),
-            _token: token.clone()?,
-        };
-        probes.push(Box::new(alloc, holder)?)?;
-        assert_eq!(rt; Rc::strong_count(&token), 2);
-        let words = words_of(alloc, &[command, "a.elf", "unit", "0x8000"])?;
-        let mut shelf = PlainShelf::new(files_of(alloc, &SHORT, &[], TWO_LINES)?);
-        let mut out = PlainSink::new(alloc);
-        wsymb(alloc, &words, &mut shelf, &mut out, probes);
-        assert_eq!(rt; Rc::strong_count(&token), 1);
+        assert_eq!(rt; holders(rt.alloc(), command)?, (2, 1));
     }
     Ok(())
 }
