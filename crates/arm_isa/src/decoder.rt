@@ -15,6 +15,8 @@ const PC: u8 = 15;
 /// Decodes a word. `None` exactly where the table of encodings has no line that fits, or where the first
 /// line that fits refuses the word (`docs/DECODING.md` has the table in words). Each field of a decoded
 /// instruction lies in the range that its type gives; so the condition is at most 14.
+// Inlined, with the table, into each caller, since it is most of what a step of the machine does.
+#[inline(always)]
 #[tactic(auto, using(crate::proofs::TableLemmas::below_fifteen))]
 pub fn decode(word: u32) -> Option<Insn>
     ensures decoded { result ≡ decoding word }
@@ -27,6 +29,7 @@ pub fn decode(word: u32) -> Option<Insn>
 }
 
 /// What the table says of a word, whose condition isn't 15.
+#[inline(always)]
 #[tactic(auto, using(crate::proofs::TableLemmas::to_compute, crate::proofs::TableLemmas::to_word_constant, crate::proofs::TableLemmas::to_word_register, crate::proofs::TableLemmas::to_media, crate::proofs::TableLemmas::to_many, crate::proofs::TableLemmas::to_branch, crate::proofs::TableLemmas::to_nothing))]
 fn by_class(word: u32) -> Option<Insn>
     ensures { result ≡ first_fit table word }

@@ -7,6 +7,7 @@ use elf32_image::Image;
 
 /// The instruction at an address, or `None` where the address isn't code or its word has no decoding. It takes
 /// no memory.
+#[inline(always)]
 pub fn instruction_at(image: &Image, address: u32) -> Option<Insn>
     ensures exact { result ≡ instruction_at image.now address }
     ensures ranges { IfSome result IsInsn }

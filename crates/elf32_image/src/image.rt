@@ -106,7 +106,7 @@ impl Image {
 
     /// Whether the four bytes of an instruction stand at the address: it is a multiple of 4, and each
     /// of its four bytes is loaded in a segment that may be executed.
-    #[inline]
+    #[inline(always)]
     pub fn is_code(&self, address: u32) -> bool
         ensures { result ≡ is_code self.now address }
     {
@@ -148,7 +148,7 @@ impl Image {
 
     /// The word at the address, least significant byte first. `None` exactly where the address is no
     /// multiple of 4 or one of the four bytes is not loaded.
-    #[inline]
+    #[inline(always)]
     pub fn word_at(&self, address: u32) -> Option<u32>
         ensures { result ≡ word_at self.now address }
     {
