@@ -1,5 +1,5 @@
 -- What probes count of the events that they see.
-use Rattle.std.specs.Prelude.{ℕ, ◌+◌, ◌<◌, ◌≤◌, ◌==◌, ◌^◌, Bool, if◌then◌else◌, nat_lt, Option, Some, None, List}
+use Rattle.std.specs.Prelude.{ℕ, ◌+◌, ◌<◌, ◌≤◌, ◌==◌, ◌^◌, Bool, if◌then◌else◌, nat_lt, List}
 use Rattle.std.specs.List.{AllByRecursion}
 use Rattle.arm_isa.specs.declared.instruction.Class.{Class}
 use Rattle.fetch_timing.specs.Timings.{class_place}
@@ -37,11 +37,6 @@ is_over p = nat_lt p.rule.limit p.tally
 -- what a probe answers that stands there
 abbrev pub go_by : Standing → Go
 go_by p = if is_over p then go.Stop else go.On
-
--- the place of a probe that answers Stop
-abbrev pub place_if : Go → ℕ → Option ℕ
-place_if go.On place = None
-place_if go.Stop place = Some place
 
 -- each can count one event more
 abbrev pub HaveRoom : List Standing → Type 0
