@@ -1,7 +1,7 @@
 -- From what comes of a command to what a call answers.
-use Rattle.std.proofs.Common.{◌≡◌, ◌≢◌, ℕ, ◌≤◌, ◌||◌, ◌==◌, ◌⊎◌, inl, inr, Bool, true, false, Option, Some, None, Result, Ok, Err, List, [], ◌∷◌, refl, sym, ap, ◌∙◌, subst, arith}
+use Rattle.std.proofs.Common.{◌≡◌, ℕ, ◌||◌, ◌==◌, inl, inr, Bool, true, false, Option, Some, None, Result, Ok, Err, List, refl, sym, ap, ◌∙◌, subst, arith}
 use Rattle.std.proofs.lemmas.Bool.{false≢true}
-use Rattle.wsym_io.specs.Io.{File, IfTold, appended}
+use Rattle.wsym_io.specs.Io.{File, appended}
 use Rattle.elf32_image.specs.declared.refusal.ElfRefusal.{ElfRefusal}
 use Rattle.elf32_image.specs.declared.refusal.ElfRefusal.TheVariants as elf
 use Rattle.elf32_image.specs.declared.refusal.NameRefusal.{NameRefusal}
@@ -11,7 +11,7 @@ use Rattle.elf32_image.specs.Parts.{ImageValue}
 use Rattle.elf32_image.specs.Segments.{image_of}
 use Rattle.fetch_timing.specs.declared.timing.Timing.{Timing}
 use Rattle.fetch_timing.specs.TimingFiles as file
-use Rattle.command_words.specs.Commands.{command_of, files_of}
+use Rattle.command_words.specs.Commands.{command_of}
 use Rattle.command_words.specs.declared.commands.Command.{Command}
 use Rattle.command_words.specs.declared.commands.Command.TheVariants.{Analyse, Run}
 use Rattle.command_words.specs.declared.options.Setup.{Setup}
@@ -29,7 +29,7 @@ use Rattle.wsymb_top.specs.declared.refusals.Refusal.TheVariants as refusal
 use Rattle.wsymb_top.specs.Answers.{IsAnswered, IsDelivered, IsGiven, IsGivenReport, IsGivenRun, IsRefused, Writing}
 use Rattle.wsymb_top.specs.Answers.IsDelivered.{SinkFailed, SinkFull, Whole}
 use Rattle.wsymb_top.specs.Jobs.{AreInputs, and_then, entry_in, image_in, is_any_long, job_of, or_refused, task_of, timing_in, timing_or_bad}
-use Rattle.wsymb_top.specs.Outcomes.{Call, HasReadFault, IsAnswer, IsDecided, IsDue, IsOfAnalysis, IsOfCommand, IsOfJob, IsOfLength, IsOfLoaded, IsOfRun, IsOfWords, IsRefusedByWalk, IsTextOf, Outcome, outcome_status, outcome_text, running}
+use Rattle.wsymb_top.specs.Outcomes.{Call, HasReadFault, IsAnswer, IsDecided, IsDue, IsOfCommand, IsOfJob, IsOfLength, IsOfLoaded, IsOfRun, IsOfWords, IsRefusedByWalk, IsTextOf, Outcome, outcome_status, outcome_text}
 use Rattle.wsymb_top.specs.Outcomes.IsDue.{Decided, OutOfMemory, Unreadable}
 use Rattle.wsymb_top.specs.Outcomes.IsRefusedByWalk.{Crooked, Outside, Unknown}
 use Rattle.wsymb_top.specs.Outcomes.Outcome.{Prints, Refuses, Returns}

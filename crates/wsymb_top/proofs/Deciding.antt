@@ -1,5 +1,5 @@
 -- For one call one outcome at most is decided, as far as its status goes.
-use Rattle.std.proofs.Common.{◌≡◌, ℕ, ◌⊎◌, inl, inr, Bool, true, false, Option, Some, None, Result, Ok, Err, List, refl, sym, ap, ◌∙◌, subst}
+use Rattle.std.proofs.Common.{◌≡◌, ℕ, inl, inr, Bool, true, false, Option, Some, None, Result, Ok, Err, List, refl, sym, ap, ◌∙◌, subst}
 use Rattle.wsym_io.specs.Io.{File, IfTold}
 use Rattle.command_words.specs.Commands.{command_of}
 use Rattle.command_words.specs.declared.commands.Command.{Command}
@@ -14,7 +14,7 @@ use Rattle.wsymb_top.specs.declared.refusals.Refusal.TheVariants as refusal
 use Rattle.wsymb_top.specs.Answers.{IsAnswered, IsDelivered, IsOnly, Writing}
 use Rattle.wsymb_top.specs.Answers.IsDelivered.{SinkFailed, SinkFull, Whole}
 use Rattle.wsymb_top.specs.Jobs.{inputs_of, is_any_long, job_of, task_of}
-use Rattle.wsymb_top.specs.Outcomes.{Call, IsDecided, IsDue, IsOfCommand, IsOfInputs, IsOfJob, IsOfLength, IsOfLoaded, IsOfRun, IsOfWords, Outcome, outcome_status, outcome_text, running}
+use Rattle.wsymb_top.specs.Outcomes.{Call, IsDue, IsOfCommand, IsOfInputs, IsOfJob, IsOfLength, IsOfLoaded, IsOfRun, IsOfWords, Outcome, outcome_status, outcome_text, running}
 use Rattle.wsymb_top.specs.Outcomes.IsDue.{Decided, OutOfMemory, Unreadable}
 use Rattle.wsymb_top.specs.Outcomes.Outcome.{Prints, Refuses, Returns}
 use Rattle.wsymb_top.specs.Refusals.{run_refusal, status_of}

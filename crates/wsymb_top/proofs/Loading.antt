@@ -1,13 +1,12 @@
 -- From what the shelf gave to what the files hold.
-use Rattle.std.proofs.Common.{◌≡◌, ℕ, suc, ◌≤◌, ◌<◌, ◌||◌, ◌⊎◌, inl, inr, nat_lt, Bool, true, false, List, [], ◌∷◌, length, replicate, take, Option, Some, None, refl, sym, ap, subst, ◌∙◌, arith}
-use Rattle.std.proofs.lemmas.Bool.{le-ltb, lt-ltb}
+use Rattle.std.proofs.Common.{◌≡◌, ℕ, suc, ◌≤◌, ◌<◌, ◌||◌, inl, inr, nat_lt, Bool, true, false, List, [], ◌∷◌, length, replicate, take, Option, Some, None, refl, sym, ap, subst, ◌∙◌, arith}
+use Rattle.std.proofs.lemmas.Bool.{lt-ltb}
 use Rattle.std.proofs.lemmas.List.{take_all, length-take, length-replicate}
 use Rattle.wsym_io.specs.Io.{File, file_bytes, IfTold}
 use Rattle.command_words.specs.Commands.{files_of, files_of_task}
 use Rattle.command_words.specs.Places.{timing_files}
 use Rattle.command_words.specs.declared.commands.Command.{Command}
 use Rattle.command_words.specs.declared.commands.Command.TheVariants.{Analyse, Run}
-use Rattle.command_words.specs.declared.places.Task.{Task}
 use Rattle.command_words.specs.declared.places.TimingWord.{TimingWord}
 use Rattle.command_words.specs.declared.places.TimingWord.TheVariants as timing
 use Rattle.machine_probe.specs.Weights.{Standing}

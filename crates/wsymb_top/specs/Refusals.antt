@@ -1,5 +1,5 @@
 -- The refusals: their numbers and their lines, and which one a lower crate's refusal is.
-use Rattle.std.specs.Prelude.{ℕ, ◌++◌, List, Result, Ok, Err, codes}
+use Rattle.std.specs.Prelude.{ℕ, ◌++◌, List, codes}
 use Rattle.std.specs.Fmt.{decimal}
 use Rattle.arm_cpu.specs.declared.stops.Stop.{Stop}
 use Rattle.arm_cpu.specs.declared.stops.Stop.TheVariants as stop
