@@ -25,6 +25,7 @@ impl Weigh {
     pub fn of(self, event: &Event) -> u64
         ensures { result ≡ weight_by self event.now }
     {
+        // Comparisons for what is counted most: each step asks this of each probe, and a jump through a table takes longer.
         if matches!(self, Weigh::Steps) {
             1
         } else if matches!(self, Weigh::Misses) {

@@ -113,6 +113,21 @@ fn halting(probes: &mut Vec<Box<dyn Probe>>, event: &Event) -> Option<u32>
     }
 }
 
+/// The event of a step that was just made, copied field by field. To copy it as a whole would be to read at once what the
+/// step has written piece by piece, and the processor would wait until these writes are done.
+#[inline(always)]
+fn copied(made: Event) -> Event
+    ensures { result ≡ made }
+{
+    Event {
+        address: made.address,
+        done: made.done,
+        class: made.class,
+        miss: made.miss,
+        cycles: made.cycles,
+    }
+}
+
 /// Makes a step, and shows its event to all probes: what it cost where the run may go on, else how the run ends.
 fn advance(machine: &mut Machine<'_>, probes: &mut Vec<Box<dyn Probe>>) -> Result<u64, RunEnd>
     requires few { length probes.old.items < 2 ^ 32 }
@@ -121,10 +136,13 @@ fn advance(machine: &mut Machine<'_>, probes: &mut Vec<Box<dyn Probe>>) -> Resul
     ensures { Advances (step machine.old.image machine.old.timing machine.old.state) machine.old machine.new (map standing probes.old.items) (map standing probes.new.items) result }
 {
     match machine.step() {
-        Ok(event) => match halting(probes, &event) {
-            Some(probe) => Err(RunEnd::Halted { probe }),
-            None => Ok(event.cycles),
-        },
+        Ok(made) => {
+            let event = copied(made);
+            match halting(probes, &event) {
+                Some(probe) => Err(RunEnd::Halted { probe }),
+                None => Ok(event.cycles),
+            }
+        }
         Err(StepEnd::Stop(stop)) => Err(RunEnd::Stopped {
             stop,
             address: machine.pc(),
