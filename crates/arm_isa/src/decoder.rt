@@ -15,7 +15,7 @@ const PC: u8 = 15;
 /// Decodes a word. `None` exactly where the table of encodings has no line that fits, or where the first
 /// line that fits refuses the word (`docs/DECODING.md` has the table in words). Each field of a decoded
 /// instruction lies in the range that its type gives; so the condition is at most 14.
-// Inlined, with the table, into each caller, since it is most of what a step of the machine does.
+// Inlined into each caller, with what sorts a word, since it is most of what a step of the machine does.
 #[inline(always)]
 #[tactic(auto, using(crate::proofs::TableLemmas::below_fifteen))]
 pub fn decode(word: u32) -> Option<Insn>
@@ -52,6 +52,7 @@ fn by_class(word: u32) -> Option<Insn>
 }
 
 /// A word whose bits 27:25 are 000.
+#[inline(always)]
 #[tactic(auto, using(crate::proofs::TableLemmas::to_exchange, crate::proofs::TableLemmas::to_compute_register))]
 fn register_form(word: u32) -> Option<Insn>
     requires { field word 25 3 ≡ 0 }

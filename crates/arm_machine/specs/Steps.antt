@@ -1,14 +1,15 @@
 -- One step of the machine, and what it costs.
-use Rattle.std.specs.Prelude.{ℕ, ◌+◌, ◌%◌, not, Bool, if◌then◌else◌, int_lt, Option, Some, None, Result, Ok, Err, List, filter, slice_index}
+use Rattle.std.specs.Prelude.{ℕ, ◌+◌, ◌%◌, not, Bool, if◌then◌else◌, int_lt, Result, Ok, Err, List, filter, slice_index}
 use Rattle.elf32_image.specs.Parts.{ImageValue}
-use Rattle.elf32_image.specs.Bytes.{is_code}
 use Rattle.arm_isa.specs.declared.instruction.Insn.{Insn}
 use Rattle.arm_isa.specs.Classes.{class_by_op}
 use Rattle.arm_isa.specs.Conditions.{condition_passes}
 use Rattle.fetch_timing.specs.declared.timing.Timing.{Timing}
 use Rattle.fetch_timing.specs.Timings.{cost_of}
 use Rattle.fetch_timing.specs.Caches.{after_fetch, holds, line_of, lines_at, penalty}
-use Rattle.control_flow.specs.Instructions.{instruction_at}
+use Rattle.control_flow.specs.declared.instructions.FetchFault.{FetchFault}
+use Rattle.control_flow.specs.declared.instructions.FetchFault.TheVariants as fault
+use Rattle.control_flow.specs.Instructions.{fetched}
 use Rattle.arm_machine.specs.declared.events.Event.{Event}
 use Rattle.arm_cpu.specs.declared.stops.Stop.{Stop}
 use Rattle.arm_cpu.specs.declared.stops.Stop.TheVariants as stop
@@ -60,10 +61,12 @@ execute image t s insn =
     let done = condition_passes insn.cond s.cpu.flags in
     charge t s insn done (outcome_of image s insn done)
 
-abbrev pub decode_at : ImageValue → Timing → State → Option Insn → Outcome
-decode_at image t s None = Stopped stop.BadWord
-decode_at image t s (Some insn) = execute image t s insn
+-- the step of what was fetched
+abbrev pub step_of : ImageValue → Timing → State → Result Insn FetchFault → Outcome
+step_of image t s (Ok insn) = execute image t s insn
+step_of image t s (Err fault.NoCode) = Stopped stop.NoCode
+step_of image t s (Err fault.BadWord) = Stopped stop.BadWord
 
--- The instruction comes from the image at pc: there must be code, and a word that decodes.
+-- The instruction comes from the image at pc.
 abbrev pub step : ImageValue → Timing → State → Outcome
-step image t s = if is_code image s.cpu.pc then decode_at image t s (instruction_at image s.cpu.pc) else Stopped stop.NoCode
+step image t s = step_of image t s (fetched image s.cpu.pc)

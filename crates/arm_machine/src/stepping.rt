@@ -12,7 +12,7 @@ use crate::state::{MachineState, SP};
 use crate::stops::StepEnd;
 use arm_cpu::Stop;
 use arm_isa::{Insn, class_of, passes};
-use control_flow::instruction_at;
+use control_flow::{FetchFault, fetch};
 use elf32_image::Image;
 use fetch_timing::Timing;
 
@@ -27,12 +27,10 @@ pub(crate) fn step(
     ensures limit { IfOk result (λ event. event.cycles ≤ 18000000) }
     ensures step { Answers (step image.now timing.now (state_of state.old)) (state_of state.old) (state_of state.new) result }
 {
-    if !image.is_code(state.cpu.pc) {
-        return Err(StepEnd::Stop(Stop::NoCode));
-    }
-    match instruction_at(image, state.cpu.pc) {
-        Some(insn) => step_insn(state, image, timing, insn),
-        None => Err(StepEnd::Stop(Stop::BadWord)),
+    match fetch(image, state.cpu.pc) {
+        Ok(insn) => step_insn(state, image, timing, insn),
+        Err(FetchFault::NoCode) => Err(StepEnd::Stop(Stop::NoCode)),
+        Err(FetchFault::BadWord) => Err(StepEnd::Stop(Stop::BadWord)),
     }
 }
 

@@ -1,20 +1,37 @@
-ghost use Rattle.std.specs.Prelude.{◌≡◌, IfSome};
+//! The instruction at an address of an image.
+
+ghost use Rattle.std.specs.Prelude.{◌≡◌, IfOk};
 ghost use Rattle.arm_isa.specs.Ranges.{IsInsn};
-ghost use Rattle.control_flow.specs.Instructions.{instruction_at};
+ghost use Rattle.control_flow.specs.Instructions.{fetched};
 
 use arm_isa::{Insn, decode};
 use elf32_image::Image;
 
-/// The instruction at an address, or `None` where the address isn't code or its word has no decoding. It takes
-/// no memory.
+/// Why no instruction can be taken from an address.
+#[derive(Clone, Copy, Debug, PartialEq, Eq)]
+pub enum FetchFault {
+    /// The address isn't code.
+    NoCode,
+    /// The address is code, but its word has no decoding.
+    BadWord,
+}
+
+/// The instruction at an address. It takes no memory.
+///
+/// # Errors
+///
+/// `NoCode`, exactly where the address isn't code; `BadWord`, exactly where it is code and its word has no decoding.
+// Inlined into each caller, with the look-up and the decoder, since it is most of what a step of the machine does.
 #[inline(always)]
-pub fn instruction_at(image: &Image, address: u32) -> Option<Insn>
-    ensures exact { result ≡ instruction_at image.now address }
-    ensures ranges { IfSome result IsInsn }
+pub fn fetch(image: &Image, address: u32) -> Result<Insn, FetchFault>
+    ensures exact { result ≡ fetched image.now address }
+    ensures ranges { IfOk result IsInsn }
 {
-    if image.is_code(address) {
-        decode(image.word_at(address)?)
-    } else {
-        None
+    match image.code_at(address) {
+        Some(word) => match decode(word) {
+            Some(insn) => Ok(insn),
+            None => Err(FetchFault::BadWord),
+        },
+        None => Err(FetchFault::NoCode),
     }
 }

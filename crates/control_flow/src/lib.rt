@@ -3,5 +3,7 @@
 #![tactic(auto)]
 
 mod instructions;
+#[cfg(test)]
+mod tests;
 
-pub use instructions::instruction_at;
+pub use instructions::{FetchFault, fetch};

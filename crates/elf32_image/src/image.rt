@@ -106,7 +106,7 @@ impl Image {
 
     /// Whether the four bytes of an instruction stand at the address: it is a multiple of 4, and each
     /// of its four bytes is loaded in a segment that may be executed.
-    #[inline(always)]
+    #[inline]
     pub fn is_code(&self, address: u32) -> bool
         ensures { result ≡ is_code self.now address }
     {
@@ -121,7 +121,7 @@ impl Image {
 
     /// The word at the address where it is code, `None` exactly where it is none: the word that a
     /// machine takes its next instruction from.
-    #[inline]
+    #[inline(always)]
     pub fn code_at(&self, address: u32) -> Option<u32>
         ensures { result ≡ code_at self.now address }
     {
@@ -148,7 +148,7 @@ impl Image {
 
     /// The word at the address, least significant byte first. `None` exactly where the address is no
     /// multiple of 4 or one of the four bytes is not loaded.
-    #[inline(always)]
+    #[inline]
     pub fn word_at(&self, address: u32) -> Option<u32>
         ensures { result ≡ word_at self.now address }
     {

@@ -21,7 +21,7 @@ use Rattle.arm_isa.specs.Writes.{op_writes}
 use Rattle.fetch_timing.specs.declared.timing.Timing.{Timing}
 use Rattle.fetch_timing.specs.Timings.{cost_of, point_cost, IsWithinLimits}
 use Rattle.fetch_timing.specs.Caches.{after_fetch, fetched, holds, line_of, lines_at, penalty, without}
-use Rattle.control_flow.specs.Instructions.{instruction_at}
+use Rattle.control_flow.specs.Instructions.{decoded, instruction_at}
 use Rattle.control_flow.specs.Points.{next_address}
 use Rattle.arm_cpu.specs.declared.stops.Stop.TheVariants as stop
 use Rattle.arm_cpu.specs.declared.cpu.Cpu.{Cpu}
@@ -34,7 +34,7 @@ use Rattle.arm_cpu.specs.Products.{multiplies, multiplies_long}
 use Rattle.arm_machine.specs.States.{State}
 use Rattle.arm_machine.specs.Transfers.{with_cpu}
 use Rattle.arm_machine.specs.Effects.{effect}
-use Rattle.arm_machine.specs.Steps.{Outcome, charge, decode_at, outcome_of, settle, step}
+use Rattle.arm_machine.specs.Steps.{Outcome, charge, outcome_of, settle, step, step_of}
 use Rattle.arm_machine.specs.Runs.{IfNext, Returns}
 use Rattle.wsym_terms.specs.LineUses.{is_last, lines_used}
 use Rattle.wsymb_top.specs.Reports.{geometry_of}
@@ -74,8 +74,7 @@ passes_always condition flags always = subst (λ (k : ℕ). condition_passes k f
 -- the step of an instruction whose condition always passes
 step_there : (image : ImageValue) (t : Timing) (s : State) (insn : Insn) → instruction_at image s.cpu.pc ≡ Some insn → eqb insn.cond 14 ≡ true → step image t s ≡ charge t s insn true (effect image s insn.op)
 step_there image t s insn found always =
-    chosen (is_code image s.cpu.pc) (decode_at image t s (instruction_at image s.cpu.pc)) _ (code_there image s.cpu.pc insn found)
-    ∙ ap (decode_at image t s) found
+    ap (step_of image t s) (chosen (is_code image s.cpu.pc) (decoded (instruction_at image s.cpu.pc)) _ (code_there image s.cpu.pc insn found) ∙ ap decoded found)
     ∙ ap (λ (done : Bool). charge t s insn done (outcome_of image s insn done)) (passes_always insn.cond s.cpu.flags always)
 
 -- What an instruction that goes on does to the registers: the next one follows, with register 14 as it was.

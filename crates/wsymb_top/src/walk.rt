@@ -3,7 +3,7 @@ ghost use Rattle.wsymb_top.specs.Steps.{StepsTo, WalksTo};
 ghost use Rattle.wsymb_top.specs.Straight.{ends_well, goes_on, is_exit, is_plain};
 
 use arm_isa::{Insn, Op, is_return, may_write};
-use control_flow::instruction_at;
+use control_flow::{FetchFault, fetch};
 use elf32_image::Image;
 use sqlite_items::Items;
 use std::alloc::{AllocError, Global};
@@ -64,17 +64,16 @@ pub(crate) fn walk_along(alloc: Global, image: &Image, entry: u32) -> Result<Wal
     Ok(Walk::Crooked)
 }
 
+#[tactic(auto, using(crate::proofs::Walking::fetched_bad, crate::proofs::Walking::fetched_no_code))]
 fn step_at(image: &Image, address: u32) -> Step
     ensures { StepsTo image.now address result }
 {
-    if !image.is_code(address) {
-        return Step::Outside;
-    }
-    match instruction_at(image, address) {
-        Some(insn) if ends_well(&insn) => Step::End(insn),
-        Some(insn) if goes_on(&insn) => Step::On(insn),
-        Some(_) => Step::Bent,
-        None => Step::Unknown,
+    match fetch(image, address) {
+        Ok(insn) if ends_well(&insn) => Step::End(insn),
+        Ok(insn) if goes_on(&insn) => Step::On(insn),
+        Ok(_) => Step::Bent,
+        Err(FetchFault::BadWord) => Step::Unknown,
+        Err(FetchFault::NoCode) => Step::Outside,
     }
 }
 
