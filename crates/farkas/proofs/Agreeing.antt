@@ -16,9 +16,9 @@ use Rattle.linear_rows.proofs.VariableOrder.{same_var}
 use Rattle.linear_rows.proofs.TermLists.{is_zero_of}
 use Rattle.linear_rows.proofs.Integers.{mul-add, add-mul, mul_assoc, mul-neg, neg-mul}
 use Rattle.linear_rows.proofs.Rounding.{mul_monotone}
-use Rattle.farkas.specs.declared.steps.Equality.{Equality}
-use Rattle.farkas.specs.Derivations.{Derivation, left_at, HoldsAt, size_of, sum_divisor, weighted_sum}
-use Rattle.farkas.specs.Steps.{Match, has_positive, has_negative, are_negated, is_negation, negation_place, found_at, equality_from, equality_of, is_side, is_made, matches_of, matches_from, matches}
+use Rattle.row_elimination.specs.declared.steps.Equality.{Equality}
+use Rattle.row_elimination.specs.Derivations.{Derivation, left_at, HoldsAt, size_of, sum_divisor, weighted_sum}
+use Rattle.row_elimination.specs.Steps.{Match, has_positive, has_negative, are_negated, is_negation, negation_place, found_at, equality_from, equality_of, is_side, is_made, matches_of, matches_from, matches}
 use Rattle.farkas.proofs.Soundness.{cancel}
 use Rattle.farkas.proofs.Rings.{regroup}
 use Rattle.farkas.proofs.Deriving.{sum_left, sum_number}

@@ -2,7 +2,7 @@
 use Rattle.std.proofs.Common.{◌≡◌, sym, ap, ◌∙◌, ℕ, suc, ◌+◌, ◌<◌, List, [], ◌∷◌, ◌++◌, length, drop, get_or, drop-cons, append_assoc, arith}
 use Rattle.linear_rows.specs.Rows.{Inequality}
 use Rattle.linear_rows.specs.Terms.{IsCollected}
-use Rattle.farkas.specs.Derivations.{Derivation, given, given_from, EachCollected}
+use Rattle.row_elimination.specs.Derivations.{Derivation, given, given_from, EachCollected}
 
 pub collected_push : (rs : List Derivation) (r : Derivation) → EachCollected rs → IsCollected r.terms → EachCollected (rs ++ r ∷ [])
 collected_push [] r h k = (k, tt)

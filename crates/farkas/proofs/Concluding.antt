@@ -16,13 +16,14 @@ use Rattle.farkas.specs.declared.placing.Level.{Level}
 use Rattle.farkas.specs.Points.{MeetsEach, IsDistinct}
 use Rattle.farkas.specs.Evidence.{IsRefutation}
 use Rattle.farkas.specs.Answers.{CarriesEvidence, CarriesEmptiness}
-use Rattle.farkas.specs.Derivations.{Derivation, given_from, at_most_last, at_least_last, size_of, combination, sum_terms, sum_last, sum_constant, sum_divisor}
-use Rattle.farkas.specs.Weights.{combined_support}
-use Rattle.farkas.specs.Steps.{has_no_terms, run}
+use Rattle.row_elimination.specs.Derivations.{Derivation, given_from, at_most_last, at_least_last, size_of, combination, sum_terms, sum_last, sum_constant, sum_divisor}
+use Rattle.row_elimination.specs.Weights.{combined_support}
+use Rattle.row_elimination.specs.Steps.{has_no_terms, run}
 use Rattle.farkas.specs.Placing.{is_less, levels_of, raised}
-use Rattle.farkas.specs.Deciding.{is_absurd, first_absurd, bounds_last, last_limit, tighter, tightest, is_at_most, is_negative_sum, last_at, start_above, point_of, refuted_from, by_bounds, by_upper, by_absurd, emptiness_by, start_of, variables_of, vars_of, answer_of_run, emptiness_of_run}
+use Rattle.farkas.specs.Deciding.{first_absurd, last_limit, tighter, tightest, is_at_most, is_negative_sum, last_at, start_above, point_of, refuted_from, by_bounds, by_upper, by_absurd, emptiness_by, start_of, variables_of, vars_of, answer_of_run, emptiness_of_run}
+use Rattle.row_elimination.specs.Steps.{is_absurd, bounds_last}
 use Rattle.linear_rows.proofs.Rounding.{mul_monotone, floor_exact}
-use Rattle.farkas.proofs.Summing.{divisor_positive, divisor_divides_numbers}
+use Rattle.row_elimination.proofs.Summing.{divisor_positive, divisor_divides_numbers}
 use Rattle.farkas.proofs.Soundness.{cancel, one-mul, at_most_times}
 use Rattle.farkas.proofs.Rings.{regroup, cancel_same}
 use Rattle.farkas.proofs.Deriving.{IsDerived}

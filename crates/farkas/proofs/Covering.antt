@@ -17,12 +17,12 @@ use Rattle.linear_rows.proofs.Integers.{mul-neg}
 use Rattle.linear_rows.proofs.Values.{sum_at-scaled}
 use Rattle.linear_rows.proofs.Normal.{sum_at-divided}
 use Rattle.linear_rows.proofs.Combining.{sum_at-weighted}
-use Rattle.farkas.specs.declared.steps.Equality.{Equality}
+use Rattle.row_elimination.specs.declared.steps.Equality.{Equality}
 use Rattle.farkas.specs.Points.{IsAbsent, IsDistinct}
-use Rattle.farkas.specs.Derivations.{Derivation, given_from, at_most_last, at_least_last, size_of, combination, sum_terms, sum_last, sum_constant, sum_divisor}
-use Rattle.farkas.specs.Steps.{Match, has_positive, has_negative, is_made, equality_of, without, with_var, matches_of, matches_from, matches, combined, candidates, eliminated, run}
+use Rattle.row_elimination.specs.Derivations.{Derivation, given_from, at_most_last, at_least_last, size_of, combination, sum_terms, sum_last, sum_constant, sum_divisor}
+use Rattle.row_elimination.specs.Steps.{Match, has_positive, has_negative, is_made, equality_of, without, with_var, matches_of, matches_from, matches, combined, candidates, eliminated, run}
 use Rattle.farkas.specs.Deciding.{with_one_var, with_vars, vars_of, start_of, variables_of}
-use Rattle.farkas.proofs.Summing.{divisor_positive, divisor_divides}
+use Rattle.row_elimination.proofs.Summing.{divisor_positive, divisor_divides}
 use Rattle.farkas.proofs.Rings.{cancel_same}
 use Rattle.farkas.proofs.Proving.{unit, unit_first, unit_behind, lt_of, abs_above, abs_below}
 use Rattle.farkas.proofs.Reaching.{factor_behind}

@@ -9,11 +9,11 @@ use Rattle.linear_rows.proofs.Integers.{mul-add, add-mul, mul_assoc}
 use Rattle.linear_rows.proofs.Combining.{sum_at-weighted}
 use Rattle.linear_rows.proofs.Normal.{sum_at-divided}
 use Rattle.linear_rows.proofs.Rounding.{floor_exact}
-use Rattle.farkas.specs.declared.weights.Support.{Support}
+use Rattle.row_elimination.specs.declared.weights.Support.{Support}
 use Rattle.farkas.specs.Evidence.{EachNamed}
-use Rattle.farkas.specs.Weights.{common_factor, divided_multipliers, weighted_support, combined_support}
-use Rattle.farkas.specs.Derivations.{Derivation, left_at, weighted_sum, sum_terms, sum_last, sum_constant, sum_divisor}
-use Rattle.farkas.proofs.Summing.{divisor_divides, divisor_divides_numbers, divisor_positive}
+use Rattle.row_elimination.specs.Weights.{common_factor, divided_multipliers, weighted_support, combined_support}
+use Rattle.row_elimination.specs.Derivations.{Derivation, left_at, weighted_sum, sum_terms, sum_last, sum_constant, sum_divisor}
+use Rattle.row_elimination.proofs.Summing.{divisor_divides, divisor_divides_numbers, divisor_positive}
 use Rattle.farkas.proofs.Rings.{derived_number}
 use Rattle.farkas.proofs.Totals.{total, total-weighted, total-divided, support_divides, named-scaled, named-summed, named-divided}
 

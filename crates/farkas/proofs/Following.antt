@@ -8,11 +8,11 @@ use Rattle.linear_rows.specs.declared.rows.RowTerm.{RowTerm}
 use Rattle.linear_rows.specs.Rows.{Inequality, sum_at}
 use Rattle.linear_rows.specs.Terms.{scaled_terms}
 use Rattle.linear_rows.proofs.Values.{sum_at-scaled}
-use Rattle.farkas.specs.declared.steps.Equality.{Equality}
+use Rattle.row_elimination.specs.declared.steps.Equality.{Equality}
 use Rattle.std.specs.Prelude.{Option}
 use Rattle.farkas.specs.Evidence.{row_at}
-use Rattle.farkas.specs.Derivations.{Derivation, given, given_from, at_most_last, at_least_last, combination, left_at, size_of}
-use Rattle.farkas.specs.Steps.{Match, mentions, has_positive, has_negative, is_made, equality_of, without, with_var, matches_of, matches_from, matches, combined, candidates, is_plain, is_covered, without_alike, is_alike, with_one, with_each, eliminated, run}
+use Rattle.row_elimination.specs.Derivations.{Derivation, given, given_from, at_most_last, at_least_last, combination, left_at, size_of}
+use Rattle.row_elimination.specs.Steps.{Match, mentions, has_positive, has_negative, is_made, equality_of, without, with_var, matches_of, matches_from, matches, combined, candidates, is_plain, is_covered, without_alike, is_alike, with_one, with_each, eliminated, run}
 use Rattle.farkas.specs.Deciding.{start_of}
 use Rattle.farkas.proofs.Soundness.{one-mul}
 use Rattle.farkas.proofs.Deriving.{IsDerived, sum_derived, side_at, constant_of}

@@ -18,8 +18,8 @@ use Rattle.farkas.specs.declared.answers.Emptiness.{Emptiness}
 use Rattle.farkas.specs.declared.answers.Emptiness.TheVariants as emptiness
 use Rattle.farkas.specs.Evidence.{row_at, combined_terms, combined_constant, IsProof, IsEmptyProof}
 use Rattle.farkas.specs.Answers.{CarriesEvidence, CarriesEmptiness, Decides, DecidesEmptiness, IsProved, IsEmptyAnswer, IsPlain, IsAbsurd, Gives, Have, HaveAbsurd}
-use Rattle.farkas.specs.Derivations.{Derivation, EachCollected, given_from}
-use Rattle.farkas.specs.Steps.{are_same, has_no_terms}
+use Rattle.row_elimination.specs.Derivations.{Derivation, EachCollected, given_from}
+use Rattle.row_elimination.specs.Steps.{are_same, has_no_terms}
 use Rattle.farkas.specs.Deciding.{gives, giver_place, alone, had_answer, absurd_place, had_emptiness, start_of, answer_of_run, emptiness_of_run}
 use Rattle.farkas.proofs.Soundness.{one-mul, proof_entails, refutation_refutes, empty_proof_empties, witness_inhabits}
 use Rattle.farkas.proofs.Concluding.{run_carries, emptiness_carries}

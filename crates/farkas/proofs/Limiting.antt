@@ -8,7 +8,7 @@ use Rattle.linear_rows.specs.Terms.{factor_of}
 use Rattle.linear_rows.proofs.Rounding.{mul_monotone}
 use Rattle.farkas.specs.declared.placing.Placed.{Placed}
 use Rattle.farkas.specs.declared.placing.Limit.{Limit}
-use Rattle.farkas.specs.Derivations.{Derivation, size_of}
+use Rattle.row_elimination.specs.Derivations.{Derivation, size_of}
 use Rattle.farkas.specs.Placing.{limit_of, is_less, lesser, limits, least_limit}
 use Rattle.farkas.proofs.Soundness.{cancel}
 use Rattle.farkas.proofs.Proving.{lt_of, ge_of, size_above, size_below}

@@ -15,8 +15,8 @@ use Rattle.linear_rows.proofs.Integers.{mul-add, mul-neg, neg-mul}
 use Rattle.linear_rows.proofs.Rounding.{mul_monotone}
 use Rattle.farkas.specs.declared.placing.Placed.{Placed}
 use Rattle.farkas.specs.declared.placing.Limit.{Limit}
-use Rattle.farkas.specs.Derivations.{Derivation, HoldsAt, size_of}
-use Rattle.farkas.specs.Steps.{Match, mentions, has_positive, has_negative, without, with_var, matches, combined, are_same, is_alike, is_covered, without_alike, has_no_terms, is_plain, with_one, with_each}
+use Rattle.row_elimination.specs.Derivations.{Derivation, HoldsAt, size_of}
+use Rattle.row_elimination.specs.Steps.{Match, mentions, has_positive, has_negative, without, with_var, matches, combined, are_same, is_alike, is_covered, without_alike, has_no_terms, is_plain, with_one, with_each}
 use Rattle.farkas.specs.Placing.{slack_of, limit_of, limits, least_limit, extended, from_above, chosen}
 use Rattle.std.specs.Cmp.{signed_Decides}
 use Rattle.farkas.proofs.Soundness.{at_most_times}

@@ -18,13 +18,14 @@ use Rattle.linear_rows.proofs.TermLists.{by_order, follows_before, IsAscending-s
 use Rattle.linear_rows.proofs.Values.{sum_at-scaled}
 use Rattle.linear_rows.proofs.Rounding.{mul_monotone}
 use Rattle.linear_rows.proofs.Combining.{sum_at-weighted, weighted_collected}
-use Rattle.farkas.specs.declared.answers.Multiplier.{Multiplier}
-use Rattle.farkas.specs.declared.weights.Support.{Support}
+use Rattle.row_elimination.specs.declared.weights.Multiplier.{Multiplier}
+use Rattle.row_elimination.specs.declared.weights.Support.{Support}
 use Rattle.farkas.specs.Evidence.{row_at, combined_terms, combined_constant, IsProof, IsEmptyProof}
-use Rattle.farkas.specs.Weights.{combined_support}
-use Rattle.farkas.specs.Derivations.{Derivation, left_at}
-use Rattle.farkas.specs.Steps.{has_no_terms}
-use Rattle.farkas.specs.Deciding.{is_absurd, bounds_last, last_limit, is_at_most, is_negative_sum}
+use Rattle.row_elimination.specs.Weights.{combined_support}
+use Rattle.row_elimination.specs.Derivations.{Derivation, left_at}
+use Rattle.row_elimination.specs.Steps.{has_no_terms}
+use Rattle.farkas.specs.Deciding.{last_limit, is_at_most, is_negative_sum}
+use Rattle.row_elimination.specs.Steps.{is_absurd, bounds_last}
 use Rattle.farkas.proofs.Soundness.{one-mul, less_times}
 use Rattle.farkas.proofs.Rings.{together, regroup, cancel_same}
 use Rattle.farkas.proofs.Totals.{total}

@@ -16,7 +16,7 @@ use Rattle.linear_rows.proofs.TermLists.{by_order, follows_before}
 use Rattle.linear_rows.proofs.Integers.{mul-add, mul_assoc, mul-neg}
 use Rattle.farkas.specs.declared.placing.Placed.{Placed}
 use Rattle.farkas.specs.Points.{number_of, IsAbsent}
-use Rattle.farkas.specs.Derivations.{Derivation, left_at, HoldsAt}
+use Rattle.row_elimination.specs.Derivations.{Derivation, left_at, HoldsAt}
 use Rattle.farkas.specs.Placing.{slack_from, slack_of, scaled_numbers, extended}
 use Rattle.farkas.proofs.Agreeing.{room}
 

@@ -5,9 +5,9 @@ use Rattle.linear_rows.specs.declared.rows.RowTerm.{RowTerm}
 use Rattle.linear_rows.specs.Forms.{is_small, small}
 use Rattle.farkas.specs.declared.placing.Placed.{Placed}
 use Rattle.farkas.specs.Points.{number_of}
-use Rattle.farkas.specs.Derivations.{Derivation}
+use Rattle.row_elimination.specs.Derivations.{Derivation}
 use Rattle.farkas.specs.Placing.{slack_from, slack_fits_from, slack_of, slack_fits}
-use Rattle.farkas.proofs.Adding.{some_if, none_if, true_if}
+use Rattle.row_elimination.proofs.Adding.{some_if, none_if, true_if}
 
 and_false : (a b : Bool) → b ≡ false → (a && b) ≡ false
 and_false true b e = e

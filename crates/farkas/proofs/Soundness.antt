@@ -7,7 +7,7 @@ use Rattle.linear_rows.proofs.Integers.{add-mul, mul_assoc}
 use Rattle.linear_rows.proofs.Values.{sum_at-scaled}
 use Rattle.linear_rows.proofs.Combining.{sum_at-weighted}
 use Rattle.linear_rows.proofs.Rounding.{mul_monotone}
-use Rattle.farkas.specs.declared.answers.Multiplier.{Multiplier}
+use Rattle.row_elimination.specs.declared.weights.Multiplier.{Multiplier}
 use Rattle.farkas.specs.declared.answers.RationalPoint.{RationalPoint}
 use Rattle.farkas.specs.Points.{Meets, MeetsEach, Entail, AreEmpty}
 use Rattle.farkas.specs.Evidence.{row_at, combined_terms, combined_constant, Shows, ShowsEmpty, IsProof, IsEmptyProof, IsRefutation, IsWitness}

@@ -19,12 +19,12 @@ use Rattle.linear_rows.proofs.Divisors.{IsGcd-gcd}
 use Rattle.linear_rows.proofs.Combining.{weighted_collected}
 use Rattle.farkas.specs.declared.placing.Placed.{Placed}
 use Rattle.farkas.specs.Points.{number_of, IsAbsent, IsDistinct}
-use Rattle.farkas.specs.Derivations.{Derivation, left_at, size_of, combination, sum_terms, sum_last, sum_constant}
-use Rattle.farkas.specs.Steps.{without, with_var, matches, combined, candidates, eliminated, run}
+use Rattle.row_elimination.specs.Derivations.{Derivation, left_at, size_of, combination, sum_terms, sum_last, sum_constant}
+use Rattle.row_elimination.specs.Steps.{without, with_var, matches, combined, candidates, eliminated, run}
 use Rattle.farkas.specs.Placing.{scaled_numbers, extended, common_number, point_divisor, divided_numbers, lowest_point, chosen, least_limit, with_number, levels_of, raised}
 use Rattle.std.specs.Prelude.{None}
 use Rattle.farkas.proofs.Soundness.{cancel, less_times}
-use Rattle.farkas.proofs.Summing.{divided_collected}
+use Rattle.row_elimination.proofs.Summing.{divided_collected}
 use Rattle.farkas.proofs.Following.{Each, Each-front, Each-eliminated}
 use Rattle.farkas.proofs.Reaching.{numbers_at, room_at, holds_room, room_holds, absent_zero}
 use Rattle.farkas.proofs.Meeting.{At, Before, chosen_meets, each_holds, matches_agree, mapped}

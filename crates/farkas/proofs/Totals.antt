@@ -9,10 +9,10 @@ use Rattle.linear_rows.specs.Rows.{Inequality}
 use Rattle.linear_rows.specs.NormalForm.{gcd}
 use Rattle.linear_rows.proofs.Divisors.{IsGcd-gcd}
 use Rattle.linear_rows.proofs.Integers.{mul-add, add-mul}
-use Rattle.farkas.specs.declared.answers.Multiplier.{Multiplier}
+use Rattle.row_elimination.specs.declared.weights.Multiplier.{Multiplier}
 use Rattle.farkas.specs.Evidence.{row_at, EachNamed}
-use Rattle.farkas.specs.Weights.{scaled_multipliers, with_multiplier, summed_multipliers, weighted_multipliers, common_factor, divided_multipliers}
-use Rattle.farkas.proofs.Adding.{by_row, with_passed, with_same, with_new}
+use Rattle.row_elimination.specs.Weights.{scaled_multipliers, with_multiplier, summed_multipliers, weighted_multipliers, common_factor, divided_multipliers}
+use Rattle.row_elimination.proofs.Adding.{by_row, with_passed, with_same, with_new}
 use Rattle.farkas.proofs.Rings.{together}
 
 -- the sum of a number of each row, times its factor

@@ -5,9 +5,8 @@ use Rattle.linear_rows.specs.declared.rows.Var.{Var}
 use Rattle.linear_rows.specs.declared.rows.RowTerm.{RowTerm}
 use Rattle.linear_rows.specs.Variables.{var_cmp}
 use Rattle.linear_rows.specs.Rows.{Inequality}
-use Rattle.linear_rows.specs.Terms.{is_zero}
 use Rattle.linear_rows.specs.Forms.{is_small}
-use Rattle.farkas.specs.declared.answers.Multiplier.{Multiplier}
+use Rattle.row_elimination.specs.declared.weights.Multiplier.{Multiplier}
 use Rattle.farkas.specs.declared.answers.RationalPoint.{RationalPoint}
 use Rattle.farkas.specs.declared.answers.Answer.{Answer}
 use Rattle.farkas.specs.declared.answers.Answer.TheVariants.{Proved, Refuted, Beyond}
@@ -15,9 +14,9 @@ use Rattle.farkas.specs.declared.answers.Emptiness.{Emptiness}
 use Rattle.farkas.specs.declared.answers.Emptiness.TheVariants as emptiness
 use Rattle.farkas.specs.declared.placing.Placed.{Placed}
 use Rattle.farkas.specs.declared.placing.Limit.{Limit}
-use Rattle.farkas.specs.Weights.{is_below, combined_support, supports_fit}
-use Rattle.farkas.specs.Derivations.{Derivation, given_from, at_most_last, at_least_last}
-use Rattle.farkas.specs.Steps.{are_same, has_no_terms, run, run_fits}
+use Rattle.row_elimination.specs.Weights.{is_below, combined_support, supports_fit}
+use Rattle.row_elimination.specs.Derivations.{Derivation, given_from, at_most_last, at_least_last}
+use Rattle.row_elimination.specs.Steps.{are_same, bounds_last, has_no_terms, is_absurd, run, run_fits}
 use Rattle.farkas.specs.Placing.{is_less, levels_of, raised, raised_fits}
 use Rattle.farkas.specs.declared.placing.Level.{Level}
 
@@ -43,18 +42,9 @@ start_of rows row = given_from 0 rows ++ at_most_last row.terms ∷ at_least_las
 abbrev pub variables_of : List Inequality → Inequality → List Var
 variables_of rows row = vars_of (with_vars [] row.terms) rows
 
--- no terms and no multiple of the last variable, and a negative constant
-abbrev pub is_absurd : Derivation → Bool
-is_absurd r = has_no_terms r.terms && is_zero r.last && int_lt r.constant (pos 0)
-
 abbrev pub first_absurd : List Derivation → Option Derivation
 first_absurd [] = None
 first_absurd (r ∷ rs) = if is_absurd r then Some r else first_absurd rs
-
--- it bounds the last variable from above, or from below
-abbrev pub bounds_last : Bool → Derivation → Bool
-bounds_last true r = has_no_terms r.terms && int_lt (pos 0) r.last
-bounds_last false r = has_no_terms r.terms && int_lt r.last (pos 0)
 
 -- the bound of the last variable: its constant divided by the magnitude of the factor
 abbrev pub last_limit : Derivation → Limit

@@ -5,7 +5,7 @@ use Rattle.linear_rows.specs.declared.rows.RowTerm.{RowTerm}
 use Rattle.linear_rows.specs.Rows.{Inequality}
 use Rattle.linear_rows.specs.Terms.{scaled_terms}
 use Rattle.linear_rows.specs.Forms.{weighted_terms, weighted_constant}
-use Rattle.farkas.specs.declared.answers.Multiplier.{Multiplier}
+use Rattle.row_elimination.specs.declared.weights.Multiplier.{Multiplier}
 use Rattle.farkas.specs.declared.answers.RationalPoint.{RationalPoint}
 use Rattle.farkas.specs.Points.{MeetsEach, Breaks, valuation_of, IsPoint}
 

@@ -1,8 +1,5 @@
 pub mod Points
 pub mod Evidence
 pub mod Answers
-pub mod Weights
-pub mod Derivations
-pub mod Steps
 pub mod Placing
 pub mod Deciding

@@ -8,8 +8,8 @@ use Rattle.farkas.specs.declared.placing.Placed.{Placed}
 use Rattle.farkas.specs.declared.placing.Limit.{Limit}
 use Rattle.farkas.specs.declared.placing.Level.{Level}
 use Rattle.farkas.specs.Points.{number_of}
-use Rattle.farkas.specs.Derivations.{Derivation, size_of}
-use Rattle.farkas.specs.Steps.{has_positive, has_negative, with_var, eliminated}
+use Rattle.row_elimination.specs.Derivations.{Derivation, size_of}
+use Rattle.row_elimination.specs.Steps.{has_positive, has_negative, with_var, eliminated}
 
 -- what an inequality leaves for more terms at a point, times the point's divisor: its constant less its
 -- terms and its multiple of the last variable; a variable that has no number yet counts as 0

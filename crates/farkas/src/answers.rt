@@ -1,14 +1,6 @@
 use linear_rows::Var;
+use row_elimination::Multiplier;
 use sqlite_items::Items;
-
-/// A row of a list, and how often it is taken.
-#[derive(Clone, Copy, Debug, PartialEq, Eq)]
-pub struct Multiplier {
-    /// The place of the row in the list, from 0 on.
-    pub row: u64,
-    /// How often it is taken.
-    pub factor: u128,
-}
 
 /// A fraction for each of some variables, over one divisor. Every other variable has 0.
 #[derive(Debug, Drop)]

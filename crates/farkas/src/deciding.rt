@@ -1,18 +1,28 @@
 ghost use Rattle.std.specs.Prelude.{◌≡◌, ◌<◌, ◌*◌, ℕ, ℤ, pos, ◌-ℤ◌, ◌+ℤ◌, true, false, [], List, unsigned_abs, IfOk, OnOk, IfSome, MatchOption, Option, Some, None, ◌&&◌};
 ghost use Rattle.std.specs.Option.{option_copied};
-ghost use Rattle.farkas.specs.Deciding.{is_absurd, first_absurd, bounds_last, last_limit, tighter, tightest, is_at_most, is_negative_sum, last_at, start_above, start_above_fits, point_of, refuted_from, by_bounds, by_bounds_fits, by_upper, by_upper_fits, by_absurd, by_absurd_fits, decided, decision_fits, emptiness_by, emptiness_by_fits};
+ghost use Rattle.farkas.specs.Deciding.{first_absurd, last_limit, tighter, tightest, is_at_most, is_negative_sum, last_at, start_above, start_above_fits, point_of, refuted_from, by_bounds, by_bounds_fits, by_upper, by_upper_fits, by_absurd, by_absurd_fits, decided, decision_fits, emptiness_by, emptiness_by_fits};
+ghost use Rattle.row_elimination.specs.Steps.{is_absurd, bounds_last};
 ghost use Rattle.farkas.specs.Placing.{raised, raised_fits};
-ghost use Rattle.farkas.specs.Weights.{is_below, combined_support, supports_fit};
+ghost use Rattle.row_elimination.specs.Weights.{is_below, combined_support, supports_fit};
 ghost use Rattle.linear_rows.specs.Forms.{is_small};
 ghost use Rattle.farkas.specs.declared.answers.Answer.TheVariants.{Proved};
 
 use crate::answers::{Answer, Emptiness, RationalPoint};
-use crate::derived::Derived;
 use crate::placing::{Level, Limit, Placed, negated, raise};
-use crate::weights::{Support, product};
 use linear_rows::fit;
+use row_elimination::{Derived, Support, product};
 use sqlite_items::Items;
 use std::alloc::{AllocError, Global};
+
+/// The bound of the last variable.
+fn last_limit(row: &Derived) -> Limit
+    ensures { result ≡ last_limit row.now }
+{
+    Limit {
+        slack: row.constant(),
+        size: row.last().unsigned_abs(),
+    }
+}
 
 /// The first row that holds nowhere.
 fn first_absurd(rows: &[Derived]) -> Option<&Derived>
@@ -34,7 +44,7 @@ fn tighter<'a>(best: Option<&'a Derived>, row: &'a Derived) -> &'a Derived
 {
     match best {
         Some(other) => {
-            if row.last_limit().is_less(other.last_limit()) {
+            if last_limit(row).is_less(last_limit(other)) {
                 row
             } else {
                 other
@@ -100,7 +110,7 @@ fn start_above(alloc: Global, tested: i128, lower: Option<&Derived>) -> Option<P
                 slack: above,
                 size: 1,
             };
-            if row.last_limit().is_negative_with(limit) {
+            if last_limit(row).is_negative_with(limit) {
                 at_lower(alloc, row)
             } else {
                 Some(last_at(alloc, above, 1))
@@ -151,7 +161,7 @@ fn decide_by_bounds(
     ensures { IfOk result (λ o. MatchOption o (by_bounds_fits levels upper.now (option_copied lower.entry) ≡ false) (λ a. a ≡ by_bounds levels upper.now (option_copied lower.entry))) }
 {
     if let Some(row) = lower {
-        if upper.last_limit().is_negative_with(row.last_limit()) {
+        if last_limit(upper).is_negative_with(last_limit(row)) {
             return prove_by_bounds(alloc, upper, row);
         }
     }
@@ -169,8 +179,8 @@ fn prove_by_bounds(
         (λ a. a ≡ Proved (combined_support (unsigned_abs lower.now.last) upper.now.support (unsigned_abs upper.now.last) lower.now.support 1).multipliers
         (combined_support (unsigned_abs lower.now.last) upper.now.support (unsigned_abs upper.now.last) lower.now.support 1).divisor)) }
 {
-    let a = lower.last_limit().size;
-    let b = upper.last_limit().size;
+    let a = last_limit(lower).size;
+    let b = last_limit(upper).size;
     match upper.support().combine(alloc, a, lower.support(), b, 1)? {
         Some(
             Support {
@@ -210,7 +220,7 @@ fn is_at_most(tested: i128, upper: &Derived) -> bool
         slack: tested,
         size: 1,
     };
-    !limit.is_less(upper.last_limit())
+    !limit.is_less(last_limit(upper))
 }
 
 /// The answer where no row that is left holds nowhere. None where a number passes the limit.
@@ -225,7 +235,7 @@ fn decide_by_upper(
     match tightest(true, left) {
         Some(upper) => {
             if is_at_most(tested, upper) {
-                prove_by(alloc, upper, upper.last_limit().size)
+                prove_by(alloc, upper, last_limit(upper).size)
             } else {
                 decide_by_bounds(alloc, levels, upper, tightest(false, left))
             }

@@ -1,15 +1,15 @@
 ghost use Rattle.std.specs.Prelude.{◌≡◌, ◌<◌, ◌+◌, ℕ, true, false, [], ◌++◌, List, IfOk, OnOk, IfSome, MatchOption, Option, Some, None, ◌&&◌, pos, int_le, int_lt};
-ghost use Rattle.farkas.specs.Derivations.{given_from, EachCollected};
+ghost use Rattle.row_elimination.specs.Derivations.{given_from, EachCollected};
 ghost use Rattle.linear_rows.specs.Terms.{IsCollected};
-ghost use Rattle.farkas.specs.Steps.{has_no_terms};
+ghost use Rattle.row_elimination.specs.Steps.{has_no_terms};
 ghost use Rattle.farkas.specs.Answers.{CarriesEvidence, Decides, IsProved, Have, CarriesEmptiness, DecidesEmptiness, IsEmptyAnswer, HaveAbsurd};
 ghost use Rattle.farkas.specs.Deciding.{gives, giver_place, alone, had_answer, absurd_place, had_emptiness, HasCause, HasEmptinessCause, start_of, variables_of, vars_of, answer_of_run, emptiness_of_run, entailment_fits, emptiness_fits};
 
-use crate::answers::{Answer, Emptiness, Multiplier};
+use crate::answers::{Answer, Emptiness};
 use crate::deciding::{decide, decide_emptiness};
-use crate::derived::{Derived, are_same};
 use crate::runs::{Run, add_all_vars, add_vars, eliminate_each};
 use linear_rows::{Row, Var};
+use row_elimination::{Derived, Multiplier, are_same};
 use sqlite_items::Items;
 use std::alloc::{AllocError, Global};
 

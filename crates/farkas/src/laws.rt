@@ -1,6 +1,6 @@
 ghost use Rattle.std.specs.Prelude.{ℕ, List};
 ghost use Rattle.linear_rows.specs.Rows.{Inequality};
-ghost use Rattle.farkas.specs.declared.answers.Multiplier.{Multiplier as Factor};
+ghost use Rattle.row_elimination.specs.declared.weights.Multiplier.{Multiplier as Factor};
 ghost use Rattle.farkas.specs.declared.answers.RationalPoint.{RationalPoint as Place};
 ghost use Rattle.farkas.specs.Points.{Entail, AreEmpty};
 ghost use Rattle.farkas.specs.Evidence.{IsProof, IsEmptyProof, IsRefutation, IsWitness};

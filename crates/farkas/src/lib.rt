@@ -2,7 +2,8 @@
 //!
 //! A proof is a list of multipliers, as Farkas' lemma promises: the multiplied rows add up to the row, or to
 //! `0 <= -1`. A refutation is a rational point that meets the rows and breaks the row. Both can be checked without
-//! knowing how they were found; they are found by Fourier and Motzkin's elimination.
+//! knowing how they were found; they are found by Fourier and Motzkin's elimination,
+//! of which `row_elimination` makes the steps.
 //!
 //! ```text
 //! let answer = entails(alloc, rows, &row)?;      // x - y <= 0 and y <= 5 entail x <= 5: both rows, once
@@ -12,18 +13,16 @@
 
 mod answers;
 mod deciding;
-mod derived;
 mod entailment;
 mod laws;
 mod placing;
 mod runs;
-mod steps;
 #[cfg(test)]
 mod tests;
-mod weights;
 
-pub use answers::{Answer, Emptiness, Multiplier, RationalPoint};
+pub use answers::{Answer, Emptiness, RationalPoint};
 pub use entailment::{empty, entails};
 pub use laws::{
     empty_proofs_are_sound, proofs_are_sound, refutations_are_sound, witnesses_are_sound,
 };
+pub use row_elimination::Multiplier;

@@ -4,8 +4,8 @@ ghost use Rattle.linear_rows.specs.NormalForm.{floor, gcd};
 ghost use Rattle.farkas.specs.Points.{number_of};
 ghost use Rattle.farkas.specs.Placing.{slack_from, slack_fits_from, slack_of, slack_fits, limit_of, is_less, lesser, limits, least_limit, limits_fit, scaled_numbers, numbers_fit, extended, extended_fits, common_number, point_divisor, divided_numbers, lowest_point, from_below, from_above, fits_below, fits_above, chosen, chosen_fits, with_number, number_fits, raised, raised_fits};
 
-use crate::derived::Derived;
 use linear_rows::{RowTerm, Var, Weight, fit, greatest_common_divisor, order, product, quotient};
+use row_elimination::Derived;
 use sqlite_items::Items;
 use std::alloc::{AllocError, Global};
 use std::cmp::Ordering;

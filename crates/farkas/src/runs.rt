@@ -1,12 +1,11 @@
 ghost use Rattle.std.specs.Prelude.{◌≡◌, ◌<◌, ℕ, true, false, [], List, IfOk, OnOk, MatchOption};
-ghost use Rattle.farkas.specs.Steps.{run, run_fits};
+ghost use Rattle.row_elimination.specs.Steps.{run, run_fits};
 ghost use Rattle.farkas.specs.Placing.{levels_of};
 ghost use Rattle.farkas.specs.Deciding.{with_one_var, with_vars, vars_of};
 
-use crate::derived::Derived;
 use crate::placing::Level;
-use crate::steps::{Step, eliminate};
 use linear_rows::{Row, RowTerm, Var, order};
+use row_elimination::{Derived, Step, eliminate};
 use sqlite_items::Items;
 use std::alloc::{AllocError, Global};
 use std::cmp::Ordering;

@@ -1,5 +1,5 @@
 use Rattle.std.proofs.Common.{rules, ◌≡◌, sym, subst, List, ◌++◌, ◌∷◌, []}
-use Rattle.farkas.specs.Derivations.{Derivation, given_from, EachCollected}
+use Rattle.row_elimination.specs.Derivations.{Derivation, given_from, EachCollected}
 use Rattle.farkas.proofs.Collecting.{given_next, collected_push}
 use Rattle.farkas.proofs.entailment.given.Goals as goal
 

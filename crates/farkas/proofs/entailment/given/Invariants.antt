@@ -1,5 +1,5 @@
 use Rattle.std.proofs.Common.{◌≡◌, drop, ◌++◌}
-use Rattle.farkas.specs.Derivations.{given_from, EachCollected}
+use Rattle.row_elimination.specs.Derivations.{given_from, EachCollected}
 use Rattle.farkas.proofs.entailment.given.Given as goal
 
 abbrev pub invariant-loop-row : goal.invariant-loop-row

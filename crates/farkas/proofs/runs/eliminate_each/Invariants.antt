@@ -1,5 +1,5 @@
 use Rattle.std.proofs.Common.{◌≡◌, false, drop, ◌++◌}
-use Rattle.farkas.specs.Steps.{run, run_fits}
+use Rattle.row_elimination.specs.Steps.{run, run_fits}
 use Rattle.farkas.specs.Placing.{levels_of}
 use Rattle.farkas.proofs.runs.eliminate_each.Given as goal
 

@@ -1,9 +1,0 @@
-use Rattle.std.proofs.Common.{◌≡◌, length}
-use Rattle.farkas.specs.Steps.{are_negated}
-use Rattle.farkas.proofs.derived.are_negated.Given as goal
-
-abbrev pub invariant-loop-x : goal.invariant-loop-x
-invariant-loop-x l = are_negated l.left l.right ≡ are_negated l.first l.second
-
-abbrev pub decreases-loop-x : goal.decreases-loop-x
-decreases-loop-x l = length l.left

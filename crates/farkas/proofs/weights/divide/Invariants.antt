@@ -1,6 +1,0 @@
-use Rattle.std.proofs.Common.{◌≡◌, drop, ◌++◌}
-use Rattle.farkas.specs.Weights.{divided_multipliers}
-use Rattle.farkas.proofs.weights.divide.Given as goal
-
-abbrev pub invariant-loop-multiplier : goal.invariant-loop-multiplier
-invariant-loop-multiplier l = l.out.items ++ divided_multipliers l.divisor (drop l.multiplier-index l.multipliers) ≡ divided_multipliers l.divisor l.multipliers

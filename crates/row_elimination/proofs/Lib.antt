@@ -1,0 +1,4 @@
+pub mod Adding
+pub mod Summing
+pub mod Parting
+pub mod Matching
