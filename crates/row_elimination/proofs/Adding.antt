@@ -84,6 +84,18 @@ joined_fits m (x ∷ xs) f e =
     fits_same m x xs same ∙ ap (λ n. is_below (n + m.factor)) factor)
     (λ more. absurd (let g : None ≡ Some f = sym (found_none m.row x xs more) ∙ e in cc))
 
+fits_new : (m x : Multiplier) (xs : List Multiplier) → m.row < x.row → sum_fits m (x ∷ xs) ≡ true
+fits_new m x xs h = grind (arith, nat_tests)
+
+-- where its row has none, no sum is made
+pub absent_fits : (m : Multiplier) (xs : List Multiplier) → found_factor m.row xs ≡ None → sum_fits m xs ≡ true
+absent_fits m [] e = refl
+absent_fits m (x ∷ xs) e =
+    by_row x.row m.row
+    (λ less. fits_passed m x xs less ∙ absent_fits m xs (sym (found_passed m.row x xs less) ∙ e))
+    (λ same. absurd (let g : Some x.factor ≡ None = sym (found_same m.row x xs same) ∙ e in cc))
+    (λ more. fits_new m x xs more)
+
 -- a new one goes to its place
 pub inserted : (m : Multiplier) (xs : List Multiplier) → found_factor m.row xs ≡ None →
     take (before_row m.row xs) xs ++ m ∷ drop (before_row m.row xs) xs ≡ with_multiplier m xs
@@ -145,18 +157,22 @@ and_false : (a b : Bool) → b ≡ false → (a && b) ≡ false
 and_false true b e = e
 and_false false b e = refl
 
--- a sum that passes the limit later passes it in the whole
+-- a sum that stays below the limit leaves it to the others whether all do
 pub sums_next : (a i : ℕ) (xs out out' : List Multiplier) (d : Multiplier) (f : ℕ) → i < length xs → f ≡ a * (get_or xs i d).factor →
-    out' ≡ with_multiplier (record { row = (get_or xs i d).row; factor = f }) out →
-    sums_fit (scaled_multipliers a (drop (i + 1) xs)) out' ≡ false → sums_fit (scaled_multipliers a (drop i xs)) out ≡ false
-sums_next a i xs out out' d f h e o k =
+    sum_fits (record { row = (get_or xs i d).row; factor = f }) out ≡ true → out' ≡ with_multiplier (record { row = (get_or xs i d).row; factor = f }) out →
+    sums_fit (scaled_multipliers a (drop (i + 1) xs)) out' ≡ sums_fit (scaled_multipliers a (drop i xs)) out
+sums_next a i xs out out' d f h e k o =
     let first : drop i xs ≡ get_or xs i d ∷ drop (suc i) xs = drop-cons xs i d h in
-    let next : suc i ≡ i + 1 = omega arith in
-    let added : with_multiplier (record { row = (get_or xs i d).row; factor = a * (get_or xs i d).factor }) out ≡ out' =
-    sym (o ∙ ap (λ (n : ℕ). with_multiplier (record { row = (get_or xs i d).row; factor = n }) out) e) in
-    ap (λ (ys : List Multiplier). sums_fit (scaled_multipliers a ys) out) first
-    ∙ and_false _ _ (ap (λ (ys : List Multiplier). sums_fit (scaled_multipliers a (drop (suc i) xs)) ys) added
-    ∙ ap (λ (n : ℕ). sums_fit (scaled_multipliers a (drop n xs)) out') next ∙ k)
+    let next : i + 1 ≡ suc i = omega arith in
+    let added : out' ≡ with_multiplier (record { row = (get_or xs i d).row; factor = a * (get_or xs i d).factor }) out =
+    o ∙ ap (λ (n : ℕ). with_multiplier (record { row = (get_or xs i d).row; factor = n }) out) e in
+    let fits : sum_fits (record { row = (get_or xs i d).row; factor = a * (get_or xs i d).factor }) out ≡ true =
+    ap (λ (n : ℕ). sum_fits (record { row = (get_or xs i d).row; factor = n }) out) (sym e) ∙ k in
+    let rest : Bool = sums_fit (scaled_multipliers a (drop (suc i) xs)) (with_multiplier (record { row = (get_or xs i d).row; factor = a * (get_or xs i d).factor }) out) in
+    ap (λ (n : ℕ). sums_fit (scaled_multipliers a (drop n xs)) out') next
+    ∙ ap (λ (ys : List Multiplier). sums_fit (scaled_multipliers a (drop (suc i) xs)) ys) added
+    ∙ sym (ap (λ (c : Bool). c && rest) fits)
+    ∙ sym (ap (λ (ys : List Multiplier). sums_fit (scaled_multipliers a ys) out) first)
 
 pub sums_end : (a i : ℕ) (xs out : List Multiplier) (d : Multiplier) (f : ℕ) → i < length xs → f ≡ a * (get_or xs i d).factor →
     sum_fits (record { row = (get_or xs i d).row; factor = f }) out ≡ false → sums_fit (scaled_multipliers a (drop i xs)) out ≡ false

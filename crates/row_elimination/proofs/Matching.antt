@@ -11,7 +11,7 @@ use Rattle.row_elimination.specs.Steps.{Match, has_negative, is_made, matches_of
 pub record Progress (y : Var) (all rest : List Match) (made count : ℕ) (kept start : List Derivation) : Type 0 where
   pub within : made ≤ 4096
   pub numbered : made + length rest ≡ count + length all
-  pub fits : matches_fit y rest ≡ false → matches_fit y all ≡ false
+  pub fits : matches_fit y rest ≡ matches_fit y all
   pub told : with_each kept (combined y rest) ≡ with_each start (combined y all)
 
 and_false : (a b : Bool) → b ≡ false → (a && b) ≡ false
@@ -19,19 +19,29 @@ and_false true b e = e
 and_false false b e = refl
 
 pub taken : (y : Var) (all rest : List Match) (m : Match) (made count : ℕ) (kept start kept' : List Derivation) →
-    Progress y all (m ∷ rest) made count kept start → made ≢ 4096 → kept' ≡ with_one kept (combination y m.positive m.negative) →
+    Progress y all (m ∷ rest) made count kept start → made ≢ 4096 → combination_fits y m.positive m.negative ≡ true → kept' ≡ with_one kept (combination y m.positive m.negative) →
     Progress y all rest (made + 1) count kept' start
-taken y all rest m made count kept start kept' p n e = record {
+taken y all rest m made count kept start kept' p n f e = record {
   within = (let h = p.within in omega arith);
   numbered = (let h = p.numbered in omega arith);
-  fits = (λ h. p.fits (and_false (combination_fits y m.positive m.negative) (matches_fit y rest) h));
+  fits = sym (ap (λ (b : Bool). b && matches_fit y rest) f) ∙ p.fits;
   told = ap (λ (ks : List Derivation). with_each ks (combined y rest)) e ∙ p.told;
 }
 
 -- all are made
 pub finished : (y : Var) (all : List Match) (made count : ℕ) (kept start : List Derivation) → Progress y all [] made count kept start →
-    (made ≡ count + length all) × (made ≤ 4096) × (kept ≡ with_each start (combined y all))
-finished y all made count kept start p = ((let h = p.numbered in omega arith), p.within, p.told)
+    (matches_fit y all ≡ true) × (made ≡ count + length all) × (made ≤ 4096) × (kept ≡ with_each start (combined y all))
+finished y all made count kept start p = (sym p.fits, (let h = p.numbered in omega arith), p.within, p.told)
+
+le_true : (a b : ℕ) → a ≤ b → nat_le a b ≡ true
+le_true a b h = grind (arith, nat_tests)
+
+-- and stay within the limits
+pub all_fit : (y : Var) (all : List Match) (made count : ℕ) (kept start : List Derivation) → Progress y all [] made count kept start →
+    (matches_fit y all && nat_le (count + length all) 4096) ≡ true
+all_fit y all made count kept start p =
+    ap (λ (b : Bool). b && nat_le (count + length all) 4096) (sym p.fits)
+    ∙ le_true (count + length all) 4096 (let h = p.numbered in let w = p.within in omega arith)
 
 le_false : (a b : ℕ) → b < a → nat_le a b ≡ false
 le_false a b h = grind (arith, nat_tests)
@@ -46,7 +56,7 @@ too_many y all rest m made count kept start p e =
 pub too_large : (y : Var) (all rest : List Match) (m : Match) (made count : ℕ) (kept start : List Derivation) →
     Progress y all (m ∷ rest) made count kept start → combination_fits y m.positive m.negative ≡ false → (matches_fit y all && nat_le (count + length all) 4096) ≡ false
 too_large y all rest m made count kept start p e =
-    let f : matches_fit y all ≡ false = p.fits (ap (λ (b : Bool). b && matches_fit y rest) e) in
+    let f : matches_fit y all ≡ false = sym p.fits ∙ ap (λ (b : Bool). b && matches_fit y rest) e in
     ap (λ (b : Bool). b && nat_le (count + length all) 4096) f
 
 choose_true : (b : Bool) (xs ys : List Match) → b ≡ true → (if b then xs else ys) ≡ xs
@@ -78,12 +88,12 @@ match_left y e i j k p r rs h is t =
 -- one row of the loop over the rows
 pub step_taken : (y : Var) (e : Option Equality) (i j k : ℕ) (p r : Derivation) (rs : List Derivation) (all : List Match) (made made' count : ℕ) (kept kept' start : List Derivation) →
     k < length rs → r ≡ get_or rs k r → (has_negative y r && is_made e i j) ≡ true →
-    Progress y all (matches_of y e i p j (drop k rs)) made count kept start → made ≢ 4096 → made' ≡ made + 1 → kept' ≡ with_one kept (combination y p r) →
+    Progress y all (matches_of y e i p j (drop k rs)) made count kept start → made ≢ 4096 → made' ≡ made + 1 → combination_fits y p r ≡ true → kept' ≡ with_one kept (combination y p r) →
     Progress y all (matches_of y e i p (j + 1) (drop (k + 1) rs)) made' count kept' start
-step_taken y e i j k p r rs all made made' count kept kept' start h is t g n m u =
+step_taken y e i j k p r rs all made made' count kept kept' start h is t g n m f u =
     subst (λ (x : ℕ). Progress y all (matches_of y e i p (j + 1) (drop (k + 1) rs)) x count kept' start) (sym m)
     (taken y all (matches_of y e i p (j + 1) (drop (k + 1) rs)) (record { positive = p; negative = r }) made count kept start kept'
-    (subst (λ (ms : List Match). Progress y all ms made count kept start) (match_taken y e i j k p r rs h is t) g) n u)
+    (subst (λ (ms : List Match). Progress y all ms made count kept start) (match_taken y e i j k p r rs h is t) g) n f u)
 
 pub step_left : (y : Var) (e : Option Equality) (i j k : ℕ) (p r : Derivation) (rs : List Derivation) (all : List Match) (made made' count : ℕ) (kept kept' start : List Derivation) →
     k < length rs → r ≡ get_or rs k r → (has_negative y r && is_made e i j) ≡ false →
@@ -127,12 +137,12 @@ fit-append y (m ∷ ms) ns =
 
 -- some matches in front are made
 pub several_taken : (y : Var) (all ms rest : List Match) (made made' count : ℕ) (kept kept' start : List Derivation) →
-    Progress y all (ms ++ rest) made count kept start → made' ≡ made + length ms → made' ≤ 4096 → kept' ≡ with_each kept (combined y ms) →
+    Progress y all (ms ++ rest) made count kept start → matches_fit y ms ≡ true → made' ≡ made + length ms → made' ≤ 4096 → kept' ≡ with_each kept (combined y ms) →
     Progress y all rest made' count kept' start
-several_taken y all ms rest made made' count kept kept' start p m w k = record {
+several_taken y all ms rest made made' count kept kept' start p f m w k = record {
   within = w;
   numbered = (let h = p.numbered in let g = length-append {A = Match} ms rest in omega arith);
-  fits = λ h. p.fits (fit-append y ms rest ∙ and_false (matches_fit y ms) (matches_fit y rest) h);
+  fits = sym (fit-append y ms rest ∙ ap (λ (b : Bool). b && matches_fit y rest) f) ∙ p.fits;
   told =
       ap (λ (ks : List Derivation). with_each ks (combined y rest)) k
       ∙ sym (with_each-append kept (combined y ms) (combined y rest))
@@ -152,7 +162,7 @@ pub several_end : (y : Var) (all ms rest : List Match) (made count : ℕ) (kept 
     (matches_fit y all && nat_le (count + length all) 4096) ≡ false
 several_end y all ms rest made count kept start p e =
     ⊎_elim
-    (λ f. let g : matches_fit y all ≡ false = p.fits (fit-append y ms rest ∙ ap (λ (b : Bool). b && matches_fit y rest) f) in
+    (λ f. let g : matches_fit y all ≡ false = sym p.fits ∙ fit-append y ms rest ∙ ap (λ (b : Bool). b && matches_fit y rest) f in
     ap (λ (b : Bool). b && nat_le (count + length all) 4096) g)
     (λ f. let h = p.numbered in let g = length-append {A = Match} ms rest in let k = le_is_false (made + length ms) 4096 f in
     and_false (matches_fit y all) (nat_le (count + length all) 4096) (le_false (count + length all) 4096 (omega arith)))
@@ -193,9 +203,9 @@ length-candidates y rs =
     length-append {A = Derivation} (without y rs) (combined y (matches y (with_var y rs)))
     ∙ ap (λ (n : ℕ). length (without y rs) + n) (length-combined y (matches y (with_var y rs)))
 
-pub step_too_large : (y : Var) (rs : List Derivation) (n : ℕ) → n ≡ length (without y rs) →
-    (matches_fit y (matches y (with_var y rs)) && nat_le (n + length (matches y (with_var y rs))) 4096) ≡ false → step_fits y rs ≡ false
-step_too_large y rs n e h =
+pub step_settled : (y : Var) (rs : List Derivation) (n : ℕ) (b : Bool) → n ≡ length (without y rs) →
+    (matches_fit y (matches y (with_var y rs)) && nat_le (n + length (matches y (with_var y rs))) 4096) ≡ b → step_fits y rs ≡ b
+step_settled y rs n b e h =
     ap (λ (k : ℕ). matches_fit y (matches y (with_var y rs)) && nat_le k 4096)
     (length-candidates y rs ∙ ap (λ (k : ℕ). k + length (matches y (with_var y rs))) (sym e)) ∙ h
 
@@ -211,11 +221,11 @@ pushed_each rs xs kept x e = ap (λ (ks : List Derivation). with_one ks x) e ∙
 pub row_taken : (y : Var) (e : Option Equality) (i k : ℕ) (p : Derivation) (rs : List Derivation) (all : List Match) (made made' count : ℕ) (kept kept' start : List Derivation) →
     k < length rs → p ≡ get_or rs k p → has_positive y p ≡ true →
     Progress y all (matches_from y e rs i (drop k rs)) made count kept start →
-    (made' ≡ made + length (matches_of y e i p 0 rs)) → (made' ≤ 4096) → (kept' ≡ with_each kept (combined y (matches_of y e i p 0 rs))) →
+    matches_fit y (matches_of y e i p 0 rs) ≡ true → (made' ≡ made + length (matches_of y e i p 0 rs)) → (made' ≤ 4096) → (kept' ≡ with_each kept (combined y (matches_of y e i p 0 rs))) →
     Progress y all (matches_from y e rs (i + 1) (drop (k + 1) rs)) made' count kept' start
-row_taken y e i k p rs all made made' count kept kept' start h is t g m w u =
+row_taken y e i k p rs all made made' count kept kept' start h is t g f m w u =
     several_taken y all (matches_of y e i p 0 rs) (matches_from y e rs (i + 1) (drop (k + 1) rs)) made made' count kept kept' start
-    (subst (λ (ms : List Match). Progress y all ms made count kept start) (matches_next y e i k p rs rs h is t) g) m w u
+    (subst (λ (ms : List Match). Progress y all ms made count kept start) (matches_next y e i k p rs rs h is t) g) f m w u
 
 pub row_ends : (y : Var) (e : Option Equality) (i k : ℕ) (p : Derivation) (rs : List Derivation) (all : List Match) (made count : ℕ) (kept start : List Derivation) →
     k < length rs → p ≡ get_or rs k p → has_positive y p ≡ true →

@@ -15,7 +15,7 @@ use Rattle.linear_rows.proofs.TermLists.{IsAscending-scaled}
 use Rattle.linear_rows.proofs.Normal.{IsAscending-divided, HasNoZero-divided}
 use Rattle.row_elimination.specs.declared.weights.Support.{Support}
 use Rattle.row_elimination.specs.Weights.{supports_fit, combined_support}
-use Rattle.row_elimination.proofs.Adding.{some_if, none_if}
+use Rattle.row_elimination.proofs.Adding.{some_if, none_if, true_if}
 use Rattle.row_elimination.specs.Derivations.{Derivation, sum_stays_small, divisor_of_all, sum_terms, sum_last, sum_constant, sum_divisor, weighted_sum}
 
 pub common_to_z : (last constant : ℤ) (ts : List RowTerm) (i d : ℕ) → FitsSigned w128 last → FitsSigned w128 constant → length ts ≤ i →
@@ -82,6 +82,27 @@ pub support_too_large : (a b : ℕ) (p n : Derivation) (s t : Support) (g : ℕ)
 support_too_large a b p n s t g e f h k =
     and_false (terms_stay_small (pos a) p.terms (pos b) n.terms && constants_stay_small (pos a) p.last (pos b) n.last && constants_stay_small (pos a) p.constant (pos b) n.constant) _
     (sym (ap (λ (u : Support). supports_fit a u b t g) e ∙ ap (λ (u : Support). supports_fit a p.support b u g) f ∙ ap (supports_fit a p.support b n.support) h) ∙ k)
+
+pub small_number : (a b : ℕ) (x y z x' y' : ℤ) (r : Option ℤ) → x' ≡ x → y' ≡ y → r ≡ weighted_constant_within (pos a) x' (pos b) y' → r ≡ Some z →
+    constants_stay_small (pos a) x (pos b) y ≡ true
+small_number a b x y z x' y' r e f g h =
+    sym (ap (λ (u : ℤ). constants_stay_small (pos a) u (pos b) y') e ∙ ap (λ (u : ℤ). constants_stay_small (pos a) x (pos b) u) f)
+    ∙ true_if {A = ℤ} (constants_stay_small (pos a) x' (pos b) y') (weighted_constant (pos a) x' (pos b) y') z r g h
+
+pub small_terms : (a b : ℕ) (p n : Derivation) (xs ys out : List RowTerm) (r : Option (List RowTerm)) → xs ≡ p.terms → ys ≡ n.terms → r ≡ weighted_terms_within (pos a) xs (pos b) ys → r ≡ Some out →
+    terms_stay_small (pos a) p.terms (pos b) n.terms ≡ true
+small_terms a b p n xs ys out r e f g h =
+    sym (ap (λ (us : List RowTerm). terms_stay_small (pos a) us (pos b) ys) e ∙ ap (λ (us : List RowTerm). terms_stay_small (pos a) p.terms (pos b) us) f)
+    ∙ true_if {A = List RowTerm} (terms_stay_small (pos a) xs (pos b) ys) (weighted_terms (pos a) xs (pos b) ys) out r g h
+
+pub small_support : (a b : ℕ) (p n : Derivation) (s t : Support) (g : ℕ) → s ≡ p.support → t ≡ n.support → g ≡ sum_divisor a p b n → supports_fit a s b t g ≡ true →
+    supports_fit a p.support b n.support (sum_divisor a p b n) ≡ true
+small_support a b p n s t g e f h k =
+    sym (ap (λ (u : Support). supports_fit a u b t g) e ∙ ap (λ (u : Support). supports_fit a p.support b u g) f ∙ ap (supports_fit a p.support b n.support) h) ∙ k
+
+pub all_small : (w x y z : Bool) → w ≡ true → x ≡ true → y ≡ true → z ≡ true → (w && x && y && z) ≡ true
+all_small w x y z e f g h =
+    ap (λ (u : Bool). u && x && y && z) e ∙ ap (λ (u : Bool). u && y && z) f ∙ ap (λ (u : Bool). u && z) g ∙ h
 
 pub sum_made : (a b : ℕ) (p n : Derivation) (terms out : List RowTerm) (last constant l c : ℤ) (g : ℕ) (s t support : Support) → terms ≡ sum_terms a p b n → last ≡ sum_last a p b n → constant ≡ sum_constant a p b n →
     g ≡ sum_divisor a p b n → s ≡ p.support → t ≡ n.support → out ≡ divided g terms → l ≡ floor last g → c ≡ floor constant g → support ≡ combined_support a s b t g →

@@ -89,15 +89,15 @@ impl Derived {
         })
     }
 
-    /// The combination with another row that has no more the variable. None where a number of which it is
-    /// made passes the limit.
+    /// The combination with another row that has no more the variable. None exactly where a number of which it
+    /// is made has a magnitude of 2^127 or more.
     pub fn combine(
         &self,
         alloc: Global,
         var: &Var,
         other: &Derived,
     ) -> Result<Option<Derived>, AllocError>
-        ensures { IfOk result (λ o. MatchOption o (combination_fits var.now self.now other.now ≡ false) (λ d. d ≡ combination var.now self.now other.now)) }
+        ensures { IfOk result (λ o. MatchOption o (combination_fits var.now self.now other.now ≡ false) (λ d. (combination_fits var.now self.now other.now ≡ true) × (d ≡ combination var.now self.now other.now))) }
     {
         let a = other.size(var);
         let b = self.size(var);
@@ -220,7 +220,7 @@ impl Derived {
         other: &Derived,
         b: u128,
     ) -> Result<Option<Derived>, AllocError>
-        ensures { IfOk result (λ o. MatchOption o (sum_stays_small a self.now b other.now ≡ false) (λ d. d ≡ weighted_sum a self.now b other.now)) }
+        ensures { IfOk result (λ o. MatchOption o (sum_stays_small a self.now b other.now ≡ false) (λ d. (sum_stays_small a self.now b other.now ≡ true) × (d ≡ weighted_sum a self.now b other.now))) }
     {
         let Some(last) = weigh_numbers(a, self.last(), b, other.last()) else {
             return Ok(None);

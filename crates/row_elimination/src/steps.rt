@@ -150,7 +150,7 @@ fn combine_two(
     other: &Derived,
     kept: &mut Vec<Derived>,
 ) -> Result<bool, AllocError>
-    ensures { IfOk result (λ b. MatchBool b (kept.new.items ≡ with_one kept.old.items (combination var.now row.now other.now)) (combination_fits var.now row.now other.now ≡ false)) }
+    ensures { IfOk result (λ b. MatchBool b ((combination_fits var.now row.now other.now ≡ true) × (kept.new.items ≡ with_one kept.old.items (combination var.now row.now other.now))) (combination_fits var.now row.now other.now ≡ false)) }
 {
     match row.combine(alloc, var, other)? {
         Some(combination) => {
@@ -176,7 +176,7 @@ fn combine_one(
     requires { count ≤ 4096 }
     ensures { IfOk result (λ o. MatchOption o
         ((matches_fit var.now (matches_of var.now equality place row.now 0 rows.now) && nat_le (count + length (matches_of var.now equality place row.now 0 rows.now)) 4096) ≡ false)
-        (λ n. (n ≡ count + length (matches_of var.now equality place row.now 0 rows.now)) × (n ≤ 4096)
+        (λ n. (matches_fit var.now (matches_of var.now equality place row.now 0 rows.now) ≡ true) × (n ≡ count + length (matches_of var.now equality place row.now 0 rows.now)) × (n ≤ 4096)
         × (kept.new.items ≡ with_each kept.old.items (combined var.now (matches_of var.now equality place row.now 0 rows.now))))) }
 {
     let mut made = count;
@@ -205,7 +205,8 @@ fn combine_all(
     requires { count ≤ 4096 }
     ensures { IfOk result (λ o. MatchOption o
         ((matches_fit var.now (matches var.now rows.now) && nat_le (count + length (matches var.now rows.now)) 4096) ≡ false)
-        (λ n. kept.new.items ≡ with_each kept.old.items (combined var.now (matches var.now rows.now)))) }
+        (λ n. ((matches_fit var.now (matches var.now rows.now) && nat_le (count + length (matches var.now rows.now)) 4096) ≡ true)
+        × (kept.new.items ≡ with_each kept.old.items (combined var.now (matches var.now rows.now))))) }
 {
     let equality = first_equality(rows);
     let mut made = count;
@@ -242,10 +243,11 @@ pub struct Step {
     pub left: Vec<Derived>,
 }
 
-/// Eliminates a variable from rows, None where a number or the rows of the step pass a limit.
+/// Eliminates a variable from rows. None exactly where a number has a magnitude of 2^127 or more or the step has
+/// more than 4,096 rows.
 pub fn eliminate(alloc: Global, var: &Var, rows: Vec<Derived>) -> Result<Option<Step>, AllocError>
     ensures { IfOk result (λ o. MatchOption o (step_fits var.now rows.items ≡ false)
-        (λ s. (s.gone.items ≡ with_var var.now rows.items) × (s.left.items ≡ eliminated var.now rows.items))) }
+        (λ s. (step_fits var.now rows.items ≡ true) × (s.gone.items ≡ with_var var.now rows.items) × (s.left.items ≡ eliminated var.now rows.items))) }
 {
     let Parted { without, with } = part(alloc, var, rows)?;
     let count = without.len();

@@ -48,7 +48,7 @@ fn scale(
     multipliers: &[Multiplier],
     by: u128,
 ) -> Result<Option<Vec<Multiplier>>, AllocError>
-    ensures { IfOk result (λ o. MatchOption o (products_fit by multipliers.now ≡ false) (λ v. v.items ≡ scaled_multipliers by multipliers.now)) }
+    ensures { IfOk result (λ o. MatchOption o (products_fit by multipliers.now ≡ false) (λ v. (products_fit by multipliers.now ≡ true) × (v.items ≡ scaled_multipliers by multipliers.now))) }
 {
     let mut out = Vec::new(alloc);
     for multiplier in multipliers {
@@ -99,7 +99,7 @@ fn place_of(multipliers: &[Multiplier], row: u64) -> Place
 /// Adds a multiplier to those of a list that ascends by row, false where the sum for its row passes the
 /// limit.
 fn add(out: &mut Vec<Multiplier>, new: Multiplier) -> Result<bool, AllocError>
-    ensures { IfOk result (λ b. MatchBool b (out.new.items ≡ with_multiplier new out.old.items) (sum_fits new out.old.items ≡ false)) }
+    ensures { IfOk result (λ b. MatchBool b ((sum_fits new out.old.items ≡ true) × (out.new.items ≡ with_multiplier new out.old.items)) (sum_fits new out.old.items ≡ false)) }
 {
     let place = place_of(out.as_slice(), new.row);
     match place.factor {
@@ -123,7 +123,7 @@ fn weigh(
     second: &[Multiplier],
     b: u128,
 ) -> Result<Option<Vec<Multiplier>>, AllocError>
-    ensures { IfOk result (λ o. MatchOption o (multipliers_fit a first.now b second.now ≡ false) (λ v. v.items ≡ weighted_multipliers a first.now b second.now)) }
+    ensures { IfOk result (λ o. MatchOption o (multipliers_fit a first.now b second.now ≡ false) (λ v. (multipliers_fit a first.now b second.now ≡ true) × (v.items ≡ weighted_multipliers a first.now b second.now))) }
 {
     let Some(mut out) = scale(alloc, second, b)? else {
         return Ok(None);
@@ -183,8 +183,8 @@ impl Support {
         }
     }
 
-    /// What supports 1/g of a times one inequality plus b times another, in lowest terms. None where a
-    /// number of which it is made passes the limit.
+    /// What supports 1/g of a times one inequality plus b times another, in lowest terms. None exactly where a
+    /// number of which it is made is 2^127 or more.
     pub fn combine(
         &self,
         alloc: Global,
@@ -193,7 +193,7 @@ impl Support {
         b: u128,
         g: u128,
     ) -> Result<Option<Support>, AllocError>
-        ensures { IfOk result (λ o. MatchOption o (supports_fit a self.now b other.now g ≡ false) (λ s. s ≡ combined_support a self.now b other.now g)) }
+        ensures { IfOk result (λ o. MatchOption o (supports_fit a self.now b other.now g ≡ false) (λ s. (supports_fit a self.now b other.now g ≡ true) × (s ≡ combined_support a self.now b other.now g))) }
     {
         let (Some(first), Some(second)) = (product(a, other.divisor), product(b, self.divisor))
         else {
