@@ -22,7 +22,7 @@ fn is_failing(failing: &[u64], call: u128) -> bool
 ///
 /// It is seen as the record of its files, the numbers of the calls that fail, the calls so far and its
 /// faults. It has one count of faults for all names.
-#[derive(Debug, Drop)]
+#[derive(Drop)]
 pub struct MemShelf {
     files: Vec<ShelfFile>,
     failing: Vec<u64>,
@@ -93,7 +93,7 @@ impl Shelf for MemShelf {
 ///
 /// It is seen as the record of the bytes that it took, the most bytes that a call takes, the numbers of
 /// the calls that fail, the calls so far and its faults.
-#[derive(Debug, Drop)]
+#[derive(Drop)]
 pub struct MemSink {
     bytes: Vec<u8>,
     most: usize,

@@ -27,6 +27,3 @@ pub use shelves::{Shelf, ShelfFault, ShelfFile};
 pub use sinks::{Sink, SinkFault, write_all};
 pub use steady::{PlainShelf, PlainSink};
 pub use system::{FileShelf, StdoutSink};
-
-#[cfg(test)]
-mod tests;

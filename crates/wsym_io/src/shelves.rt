@@ -12,7 +12,7 @@ use std::io;
 use thiserror::Error;
 
 /// Why a shelf gave no bytes.
-#[derive(Clone, Copy, Debug, PartialEq, Eq, Error)]
+#[derive(Clone, Copy, Debug, Error)]
 pub enum ShelfFault {
     /// The file can't be read. The shelf's count of faults for that name rose.
     #[error("the file can't be read")]
@@ -42,7 +42,7 @@ impl From<io::Error> for ShelfFault {
 }
 
 /// A file in memory: its name, which may be any text, and its bytes.
-#[derive(Clone, Debug, PartialEq, Eq, Drop)]
+#[derive(Drop)]
 pub struct ShelfFile {
     pub name: String,
     pub bytes: Vec<u8>,

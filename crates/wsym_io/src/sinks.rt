@@ -11,7 +11,7 @@ use std::io;
 use thiserror::Error;
 
 /// Why a sink took nothing.
-#[derive(Clone, Copy, Debug, PartialEq, Eq, Error)]
+#[derive(Clone, Copy, Debug, Error)]
 pub enum SinkFault {
     /// The piece can't be written. The sink's count of faults rose.
     #[error("the output can't be written")]

@@ -10,7 +10,7 @@ use std::alloc::Global;
 use std::marker::Model;
 
 /// A shelf in memory that tells its content and never fails. It is seen as the list of its files.
-#[derive(Debug, Drop)]
+#[derive(Drop)]
 pub struct PlainShelf {
     files: Vec<ShelfFile>,
 }
@@ -54,7 +54,7 @@ impl Shelf for PlainShelf {
 }
 
 /// A sink in memory that takes each piece whole and never fails. It is seen as the bytes that it took.
-#[derive(Debug, Drop)]
+#[derive(Drop)]
 pub struct PlainSink {
     bytes: Vec<u8>,
 }
