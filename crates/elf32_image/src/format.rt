@@ -101,7 +101,7 @@ const ST_INFO: usize = 12;
 const ST_SHNDX: usize = 14;
 
 /// What the file header says of the two tables of an ELF32 executable for ARM.
-#[derive(Clone, Copy, Debug, PartialEq, Eq)]
+#[derive(Clone, Copy)]
 pub struct FileHeader {
     /// Where the program header table begins in the file, in bytes (`e_phoff`).
     pub program_offset: u32,

@@ -13,7 +13,7 @@ use crate::refusal::NameRefusal;
 use std::marker::Model;
 
 /// What an image holds at an address.
-#[derive(Clone, Copy, Debug, PartialEq, Eq)]
+#[derive(Clone, Copy, Debug)]
 pub enum Loaded {
     /// Nothing.
     No,

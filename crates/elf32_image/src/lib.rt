@@ -21,10 +21,6 @@ mod lookup;
 mod naming;
 mod reading;
 mod refusal;
-#[cfg(test)]
-mod symbol_tests;
-#[cfg(test)]
-mod tests;
 
 pub use format::FileHeader;
 pub use image::{Image, Loaded};

@@ -3,7 +3,7 @@
 use thiserror::Error;
 
 /// Why `read_image` gives no image.
-#[derive(Clone, Copy, Debug, PartialEq, Eq, Error)]
+#[derive(Clone, Copy, Debug, Error)]
 pub enum ElfRefusal {
     /// There was no memory for the file's bytes.
     #[error("out of memory")]
@@ -23,7 +23,7 @@ pub enum ElfRefusal {
 }
 
 /// Why `Image::function` gives no address.
-#[derive(Clone, Copy, Debug, PartialEq, Eq, Error)]
+#[derive(Clone, Copy, Debug, Error)]
 pub enum NameRefusal {
     /// No function symbol has the name.
     #[error("no symbol")]
