@@ -12,7 +12,7 @@ use std::marker::Model;
 /// An instruction cache of some sets, each of which keeps the lines that were fetched last.
 ///
 /// It is seen as the record of its ways and its sets, each the list of its lines, the newest first.
-#[derive(Debug, Drop)]
+#[derive(Drop)]
 pub struct LruCache {
     ways: u32,
     // The number of sets less one: their number is a power of two.

@@ -10,8 +10,6 @@ mod laws;
 mod reading;
 mod refusal;
 mod set;
-#[cfg(test)]
-mod tests;
 mod timing;
 
 pub use cache::LruCache;

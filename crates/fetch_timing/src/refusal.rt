@@ -3,7 +3,7 @@
 use thiserror::Error;
 
 /// Why `read_timing` gives no timing.
-#[derive(Clone, Copy, Debug, PartialEq, Eq, Error)]
+#[derive(Clone, Copy, Debug, Error)]
 pub enum TimingRefusal {
     /// There was no memory for the value of the text.
     #[error("out of memory")]

@@ -10,7 +10,7 @@ use std::marker::Model;
 const MOST_WAYS: usize = 16;
 
 /// The lines of one set, the newest first, of which there are 16 at most. They all differ.
-#[derive(Debug, Drop)]
+#[derive(Drop)]
 pub(crate) struct CacheSet {
     // The lines, and then places that aren't used.
     places: [u32; 16],

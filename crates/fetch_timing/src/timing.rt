@@ -7,7 +7,7 @@ use arm_isa::{Class, Insn, Op, class_of};
 const ALWAYS: u8 = 14;
 
 /// A cost table and a cache geometry. Costs are in cycles, from 0 to 1,000,000.
-#[derive(Clone, Copy, Debug, PartialEq, Eq)]
+#[derive(Clone, Copy, Debug)]
 pub struct Timing {
     /// Sets of the instruction cache: a power of two from 1 to 1,024.
     pub sets: u32,
