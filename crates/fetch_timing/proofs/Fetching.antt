@@ -92,7 +92,7 @@ absent_without : (l line : ℕ) (xs : List ℕ) → holds l xs ≡ false → hol
 absent_without l line [] h = refl
 absent_without l line (x ∷ xs) h = grind (arith, nat_tests, absent_without l line xs)
 
-none_without : (line : ℕ) (xs : List ℕ) → holds line (without line xs) ≡ false
+pub none_without : (line : ℕ) (xs : List ℕ) → holds line (without line xs) ≡ false
 none_without line [] = refl
 none_without line (x ∷ xs) = grind (arith, nat_tests, none_without line xs)
 
@@ -105,7 +105,7 @@ distinct_if : (b : Bool) (x : ℕ) (xs : List ℕ) → holds x xs ≡ false → 
 distinct_if true x xs h d = d
 distinct_if false x xs h d = (h, d)
 
-distinct_without : (line : ℕ) (xs : List ℕ) → AreDistinct xs → AreDistinct (without line xs)
+pub distinct_without : (line : ℕ) (xs : List ℕ) → AreDistinct xs → AreDistinct (without line xs)
 distinct_without line [] d = tt
 distinct_without line (x ∷ xs) d = distinct_if (eqb x line) x (without line xs) (absent_without x line xs d.0) (distinct_without line xs d.1)
 

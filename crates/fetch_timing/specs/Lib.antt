@@ -1,4 +1,5 @@
 pub mod Caches
+pub mod Staying
 pub mod Tables
 pub mod TimingFiles
 pub mod Timings
