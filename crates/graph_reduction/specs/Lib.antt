@@ -1,0 +1,10 @@
+pub mod Advances
+pub mod ClosingEdges
+pub mod FirstNodes
+pub mod Labels
+pub mod Loops
+pub mod Moves
+pub mod NodeStates
+pub mod Nodes
+pub mod Reduction
+pub mod Sets
