@@ -1,0 +1,12 @@
+pub mod AgreementLemmas
+pub mod BlockOrderLemmas
+pub mod ClosingLemmas
+pub mod ClosingRowLemmas
+pub mod HeaderLemmas
+pub mod LastLemmas
+pub mod LoopRowLemmas
+pub mod MemberRowLemmas
+pub mod NestLemmas
+pub mod PlaceLemmas
+pub mod RoundLemmas
+pub mod VisitLemmas
