@@ -1,0 +1,14 @@
+pub mod EntryLemmas
+pub mod Example
+pub mod LevelLemmas
+pub mod LoopBoundLemmas
+pub mod NestLemmas
+pub mod NodeLemmas
+pub mod NodeOrderLemmas
+pub mod OnceLemmas
+pub mod PathLemmas
+pub mod StampLemmas
+pub mod SumLemmas
+pub mod TrackLemmas
+pub mod TrailLemmas
+pub mod WayLemmas
