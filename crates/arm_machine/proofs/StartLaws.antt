@@ -8,7 +8,7 @@ use Rattle.elf32_image.specs.Parts.{ImageValue}
 use Rattle.elf32_image.specs.Bytes.{byte_at, is_code}
 use Rattle.fetch_timing.specs.declared.timing.Timing.{Timing}
 use Rattle.fetch_timing.specs.Caches.{IsCache}
-use Rattle.control_flow.specs.Points.{IsInCode}
+use Rattle.control_flow.specs.Ways.{IsInCode}
 use Rattle.arm_machine.specs.declared.start.RegisterValue.{RegisterValue}
 use Rattle.arm_machine.specs.Starting.{AreParameters, ComesBack, bad_start, home, start_registers, start_state, with_values}
 use Rattle.arm_machine.specs.Starts.{HasNumbers, IsStart}

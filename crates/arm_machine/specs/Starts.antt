@@ -5,7 +5,8 @@ use Rattle.elf32_image.specs.Parts.{ImageValue}
 use Rattle.elf32_image.specs.Bytes.{byte_at, constant_byte_at}
 use Rattle.fetch_timing.specs.declared.timing.Timing.{Timing}
 use Rattle.fetch_timing.specs.Caches.{IsCache}
-use Rattle.control_flow.specs.Points.{Point, IsCollected}
+use Rattle.control_flow.specs.Points.{Point}
+use Rattle.control_flow.specs.Ways.{IsCollected}
 use Rattle.arm_machine.specs.declared.start.RegisterValue.{RegisterValue}
 use Rattle.arm_cpu.specs.Registers.{signed_of}
 use Rattle.arm_machine.specs.States.{State}

@@ -2,7 +2,7 @@
 
 ghost use Rattle.std.specs.Prelude.{◌≡◌, ◌≢◌, ◌≤◌, ◌<◌, ◌==◌, None, Some, IfOk, IfErr, slice_index};
 ghost use Rattle.fetch_timing.specs.Timings.{IsWithinLimits};
-ghost use Rattle.control_flow.specs.Points.{IsInCode};
+ghost use Rattle.control_flow.specs.Ways.{IsInCode};
 ghost use Rattle.arm_machine.specs.Starts.{IsStart};
 ghost use Rattle.arm_machine.specs.Starting.{AreParameters, bad_start, home, start_state};
 ghost use Rattle.arm_machine.specs.Steps.{step};

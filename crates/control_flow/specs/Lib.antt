@@ -1,2 +1,4 @@
 pub mod Instructions
 pub mod Points
+pub mod Routes
+pub mod Ways

@@ -1,7 +1,13 @@
-//! Which instructions stand in an image, and how control flows between them: the points of a function with
-//! the return addresses of its open calls.
+//! Which instructions stand in an image, and how control flows between them.
+//!
+//! [`fetch`] takes the instruction at an address. The definitions in `specs/` say what a point of a function is
+//! (`Points.antt`: an address with the return addresses of the calls that are open there), where control may go from it
+//! and why it can't be followed (`Ways.antt`), and what histories and routes are (`Routes.antt`). The laws tie them
+//! together.
 #![tactic(auto)]
 
 mod instructions;
+mod laws;
 
 pub use instructions::{FetchFault, fetch};
+pub use laws::{collected_points_have_histories, faults_have_no_way};
