@@ -1,6 +1,14 @@
+pub mod ConstantLemmas
 pub mod Listing
 pub mod Loading
 pub mod Lookups
 pub mod Making
+pub mod OrderLemmas
+pub mod PcLemmas
+pub mod RunLemmas
 pub mod StartCauses
 pub mod StartLaws
+pub mod StayLemmas
+pub mod StepLemmas
+pub mod StoreLemmas
+pub mod WordLemmas

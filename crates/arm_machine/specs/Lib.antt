@@ -2,9 +2,11 @@ pub mod Access
 pub mod Blocks
 pub mod Bounds
 pub mod Effects
+pub mod Laws
 pub mod MachineCodes
 pub mod Machines
 pub mod Memories
+pub mod Orderly
 pub mod Runs
 pub mod Starting
 pub mod Starts

@@ -7,6 +7,7 @@ mod access;
 mod blocks;
 mod effects;
 mod events;
+mod laws;
 mod machine;
 mod memory;
 mod start;
@@ -18,6 +19,11 @@ mod transfers;
 pub use access::Size;
 pub use arm_cpu::{Cpu, Stop};
 pub use events::Event;
+pub use laws::{
+    branches_go_to_their_target, constants_stay, done_stores_are_allowed, kept_words_stay,
+    order_stays, other_words_stay, others_go_on, others_stay, returning_runs_are_lists,
+    steps_are_charged, stored_words_are_there,
+};
 pub use machine::Machine;
 pub use start::{RegisterValue, StartRefusal};
 pub use stops::StepEnd;
