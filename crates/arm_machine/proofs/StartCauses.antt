@@ -3,16 +3,17 @@ use Rattle.std.proofs.Common.{◌≡◌, ℕ, zero, suc, ℤ, pos, ◌+◌, ◌-
 use Rattle.std.proofs.lemmas.Bool.{eqb-true, false≢true}
 use Rattle.std.specs.List.{flat_map}
 use Rattle.std.specs.Prelude.{int_le, T}
-use Rattle.std.specs.Ordering.{nat_cmp}
+use Rattle.std.specs.Ordering.{nat_cmp, eq_by_cmp}
 use Rattle.std.specs.Cmp.{nat_cmp_total}
 use Rattle.std.specs.FinMap.{find, get, get-from_entries}
 use lib.Signed.{le_z_yes}
 use Rattle.elf32_image.specs.Parts.{ImageValue, Segment}
-use Rattle.elf32_image.specs.Bytes.{byte_at, constant_byte, constant_byte_at, executable_in, holder, is_code, is_executable_at, is_writable, loaded_byte, loaded_in}
+use Rattle.elf32_image.specs.Bytes.{HoldsBytes, byte_at, constant_byte, constant_byte_at, executable_in, holder, is_code, is_executable_at, is_writable, loaded_byte, loaded_in}
 use Rattle.elf32_image.specs.declared.image.Loaded.TheVariants.{ReadOnly, Writable}
 use Rattle.arm_machine.specs.declared.start.StartRefusal.{StartRefusal}
 use Rattle.arm_machine.specs.declared.start.StartRefusal.TheVariants as refusal
 use Rattle.arm_machine.specs.Memories.{if_loaded, segment_entries, start_entries, start_memory, zeros_from}
+use Rattle.arm_machine.specs.Orderly.{AreBytes}
 use Rattle.arm_machine.specs.Starting.{bad_start, home, is_any_loaded, is_home_loaded, is_in_range}
 use Rattle.arm_machine.proofs.Lookups.{find_in_segments, find_split}
 use Rattle.arm_cpu.specs.Registers.{signed_of}
@@ -131,3 +132,25 @@ constants_there image sp stack a b is =
     get-from_entries nat_cmp_total (start_entries image bottom (stack + 64)) a
     ∙ find_split (flat_map segment_entries image.segments) (zeros_from bottom (stack + 64)) a
     ∙ ap (λ (o : Option ℕ). if_loaded o (find nat_cmp a (zeros_from bottom (stack + 64)))) (find_in_segments image.segments a ∙ byte_of_constant (holder image a) a b is)
+
+-- a byte that is there when a run starts is one of the image's or a zero
+zero_there : (a n q b : ℕ) → find nat_cmp q (zeros_from a n) ≡ Some b → b ≡ 0
+zero_there a zero q b is = absurd (cc)
+zero_there a (suc n) q b is = first (eq_by_cmp nat_cmp q a) (find nat_cmp q (zeros_from ((a + 1) % 2 ^ 32) n)) (zero_there ((a + 1) % 2 ^ 32) n q b) is
+  where
+    first : (t : Bool) (rest : Option ℕ) → (rest ≡ Some b → b ≡ 0) → cond t (Some 0) rest ≡ Some b → b ≡ 0
+    first true rest later is = cc
+    first false rest later is = later is
+
+small_there : (x y : Option ℕ) (b : ℕ) → ((v : ℕ) → x ≡ Some v → v < 2 ^ 8) → ((v : ℕ) → y ≡ Some v → v ≡ 0) → if_loaded x y ≡ Some b → b < 2 ^ 8
+small_there None y b first second is = let e : b ≡ 0 = second b is in omega (arith, e)
+small_there (Some v) y b first second is = first b is
+
+pub bytes_there : (image : ImageValue) (sp stack : ℕ) → HoldsBytes image → AreBytes (start_memory image sp stack)
+unfolding start_entries
+bytes_there image sp stack bytes a b is =
+    let bottom = (sp + 2 ^ 32 - stack) % 2 ^ 32 in
+    small_there (byte_at image a) (find nat_cmp a (zeros_from bottom (stack + 64))) b (bytes a) (zero_there bottom (stack + 64) a)
+    (sym (ap (λ (o : Option ℕ). if_loaded o (find nat_cmp a (zeros_from bottom (stack + 64)))) (find_in_segments image.segments a))
+    ∙ sym (find_split (flat_map segment_entries image.segments) (zeros_from bottom (stack + 64)) a)
+    ∙ sym (get-from_entries nat_cmp_total (start_entries image bottom (stack + 64)) a) ∙ is)

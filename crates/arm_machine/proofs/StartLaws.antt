@@ -5,14 +5,14 @@ use Rattle.std.proofs.lemmas.List.{get_or-set_other, get_or-set_same, length-set
 use Rattle.std.specs.List.{AllByRecursion}
 use Rattle.std.specs.Int.{cast_unsigned, w32}
 use Rattle.elf32_image.specs.Parts.{ImageValue}
-use Rattle.elf32_image.specs.Bytes.{byte_at, is_code}
+use Rattle.elf32_image.specs.Bytes.{HoldsBytes, byte_at, is_code}
 use Rattle.fetch_timing.specs.declared.timing.Timing.{Timing}
 use Rattle.fetch_timing.specs.Caches.{IsCache}
 use Rattle.control_flow.specs.Ways.{IsInCode}
 use Rattle.arm_machine.specs.declared.start.RegisterValue.{RegisterValue}
 use Rattle.arm_machine.specs.Starting.{AreParameters, ComesBack, bad_start, home, start_registers, start_state, with_values}
 use Rattle.arm_machine.specs.Starts.{HasNumbers, IsStart}
-use Rattle.arm_machine.proofs.StartCauses.{constants_there, home_outside, is_good, room_above, room_below, stack_apart}
+use Rattle.arm_machine.proofs.StartCauses.{bytes_there, constants_there, home_outside, is_good, room_above, room_below, stack_apart}
 use Rattle.arm_cpu.specs.Registers.{signed_of}
 
 -- each register holds a word
@@ -103,8 +103,8 @@ same_or_not : (image : ImageValue) (a : ℕ) → is_code image home ≡ false �
 same_or_not image a outside inside is = absurd (false≢true (sym outside ∙ ap (is_code image) (sym is) ∙ inside))
 
 -- The state with which a machine starts is a start state, where control stays in code.
-pub starts : (image : ImageValue) (t : Timing) (entry sp stack : ℕ) (values : List RegisterValue) → sp < 2 ^ 32 → stack ≤ 1048576 → AreParameters values → AllByRecursion ComesBack values → IsCache t (replicate t.sets []) → bad_start image sp stack ≡ None → IsInCode image entry → IsStart image t entry stack values (start_state image t entry sp stack values)
-starts image t entry sp stack values small few named back cache none inside =
+pub starts : (image : ImageValue) (t : Timing) (entry sp stack : ℕ) (values : List RegisterValue) → sp < 2 ^ 32 → stack ≤ 1048576 → AreParameters values → AllByRecursion ComesBack values → IsCache t (replicate t.sets []) → bad_start image sp stack ≡ None → HoldsBytes image → IsInCode image entry → IsStart image t entry stack values (start_state image t entry sp stack values)
+starts image t entry sp stack values small few named back cache none bytes inside =
     let good = is_good image sp stack none in
     let at_sp : slice_index (start_registers sp values) 13 ≡ sp = start_sp sp values in
     let at_home : slice_index (start_registers sp values) 14 ≡ home = start_home sp values in
@@ -119,6 +119,7 @@ starts image t entry sp stack values small few named back cache none inside =
       apart = λ below some within. ap (λ (w : ℕ). byte_at image ((w + 2 ^ 32 - below) % 2 ^ 32)) at_sp ∙ stack_apart image sp stack below small few good.stack_free some within;
       home = ap (λ (w : ℕ). w % 4) at_home;
       away = λ p collected. subst (λ (w : ℕ). p.address ≢ w) (sym at_home) (same_or_not image p.address (home_outside image good.home_free) (inside p collected));
+      bytes = bytes_there image sp stack bytes;
       constants = constants_there image sp stack;
       none_kept = refl;
       cache = cache;

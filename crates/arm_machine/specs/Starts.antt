@@ -1,14 +1,14 @@
 -- The states in which a function starts.
 use Rattle.std.specs.Prelude.{◌≡◌, ◌≢◌, ℕ, pos, ◌+◌, ◌-◌, ◌%◌, ◌^◌, ◌<◌, ◌≤◌, ◌-ℤ◌, ◌≤ℤ◌, Some, None, List, [], ◌∷◌, length, slice_index}
-use Rattle.std.specs.FinMap as map
 use Rattle.elf32_image.specs.Parts.{ImageValue}
-use Rattle.elf32_image.specs.Bytes.{byte_at, constant_byte_at}
+use Rattle.elf32_image.specs.Bytes.{byte_at}
 use Rattle.fetch_timing.specs.declared.timing.Timing.{Timing}
 use Rattle.fetch_timing.specs.Caches.{IsCache}
 use Rattle.control_flow.specs.Points.{Point}
 use Rattle.control_flow.specs.Ways.{IsCollected}
 use Rattle.arm_machine.specs.declared.start.RegisterValue.{RegisterValue}
 use Rattle.arm_cpu.specs.Registers.{signed_of}
+use Rattle.arm_machine.specs.Orderly.{AreBytes, HasConstants}
 use Rattle.arm_machine.specs.States.{State}
 
 -- each of these registers holds its number
@@ -31,7 +31,8 @@ pub record IsStart (image : ImageValue) (t : Timing) (entry stack : ℕ) (number
   -- the return address is a multiple of 4, and no point that control reaches from the entry stands there
   pub home : slice_index s.cpu.registers 14 % 4 ≡ 0
   pub away : (p : Point) → IsCollected image entry p → p.address ≢ slice_index s.cpu.registers 14
-  -- the memory has the image's bytes where no program can write them
-  pub constants : (a b : ℕ) → constant_byte_at image a ≡ Some b → map.get s.memory a ≡ Some b
+  -- each number that the memory holds is a byte, and it has the image's bytes where no program can write them
+  pub bytes : AreBytes s.memory
+  pub constants : HasConstants image s.memory
   pub none_kept : s.kept ≡ []
   pub cache : IsCache t s.sets

@@ -78,6 +78,8 @@ impl<'a> Machine<'a> {
         if let Some(why) = bad_start(image, sp, stack) {
             return Err(why);
         }
+        // The memory begins with bytes, since those of an image are.
+        image.holds_bytes();
         match start_state(alloc, image, timing, entry, sp, stack, values) {
             Ok(state) => Ok(Machine {
                 image,

@@ -11,4 +11,4 @@ returns-in-Ok-clause-starts c inside =
     let t = c.args.timing.now in
     let none : bad_start image c.args.sp c.args.stack ≡ None = search rules in
     subst (λ (s : State). IsStart image t c.args.entry c.args.stack c.args.values.now s) (sym c.in-Ok.ensures.state)
-    (starts image t c.args.entry c.args.sp c.args.stack c.args.values.now c.ranges.sp.fits c.requires.stack c.requires.registers c.in-Ok.ensures.values c.in-Ok.ensures.own none inside)
+    (starts image t c.args.entry c.args.sp c.args.stack c.args.values.now c.ranges.sp.fits c.requires.stack c.requires.registers c.in-Ok.ensures.values c.in-Ok.ensures.own none c.holds_bytes.ensures.bytes inside)
