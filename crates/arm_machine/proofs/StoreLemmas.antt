@@ -4,7 +4,7 @@ use Rattle.std.proofs.Common.{None}
 use Rattle.std.proofs.Common.{List, [], ◌∷◌, length, eqb, inl, inr, refl, sym, ap, ◌∙◌, subst, arith}
 use Rattle.std.specs.Prelude.{is_some}
 use Rattle.std.specs.List.{list_any}
-use Rattle.std.proofs.lemmas.Bool.{eqb-true, false≢true}
+use Rattle.std.proofs.lemmas.Bool.{eqb-true, false≢true, eq-eqb, ne_eqb}
 use Rattle.elf32_image.specs.Parts.{ImageValue}
 use Rattle.arm_cpu.specs.declared.cpu.Cpu.{Cpu}
 use Rattle.arm_cpu.specs.declared.stops.Stop.{Stop}
@@ -12,7 +12,6 @@ use Rattle.arm_cpu.specs.declared.stops.Stop.TheVariants as stop
 use Rattle.arm_cpu.specs.Registers.{read}
 use Rattle.arm_machine.specs.declared.access.Size.{Size}
 use Rattle.std.proofs.lemmas.Bool.Decides.{nat_tests}
-use Rattle.std.proofs.lemmas.Bool.{eq-eqb, ne_eqb}
 use Rattle.std.specs.Cmp.{nat_cmp_total, unsigned_tied}
 use Rattle.std.specs.FinMap.{get, insert, get-insert}
 use Rattle.elf32_image.specs.Bytes.{word_of}

@@ -4,8 +4,7 @@ use Rattle.std.specs.Prelude.{◌≢◌, ◌&&◌, not, ◌==◌, Option, Some, 
 use Rattle.std.specs.BTreeSet.{BTreeSet}
 use Rattle.std.proofs.lemmas.Bool.{cases_Bool, and_parts, eqb-true, eq-eqb, cond-true, cond-false, false≢true}
 use Rattle.graph_reduction.specs.Advances.{Advanced}
-use Rattle.graph_search.specs.Flows.{Flow, edge}
-use Rattle.graph_search.specs.Flows.{IsBounded}
+use Rattle.graph_search.specs.Flows.{Flow, edge, IsBounded}
 use Rattle.graph_reduction.specs.Nodes.{number_in, state_of, AreNodes}
 use Rattle.graph_reduction.specs.Reduction.{State, first_below, is_open, fits_one, close, Giver, Nobody, Only, Several, with_giver}
 use Rattle.graph_reduction.specs.Reduction.{giver_below, other_than, giver_of, fits_two, put_into, put_some, second_rule, first_rule}

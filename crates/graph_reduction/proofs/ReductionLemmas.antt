@@ -6,8 +6,7 @@ use Rattle.std.proofs.lemmas.Bool.{cases_eq, cases_Bool, ltb-true, and_parts, or
 use Rattle.std.proofs.lemmas.Bool.{ne_eqb, cond-true, cond-false, false≢true}
 use Rattle.graph_search.specs.Walks.{Avoids, Passes}
 use Rattle.graph_search.proofs.WalkLemmas.{passes_itself, before_passed}
-use Rattle.graph_search.specs.Flows.{Flow, edge}
-use Rattle.graph_search.specs.Flows.{leads}
+use Rattle.graph_search.specs.Flows.{Flow, edge, leads}
 use Rattle.graph_reduction.specs.Reduction.{State, start, or_else, first_below, is_open, fits_one, close, Giver, Nobody, Only, Several}
 use Rattle.graph_reduction.specs.Reduction.{with_giver, giver_below, other_than, giver_of, fits_two, put_into, put_some, second_rule}
 use Rattle.graph_reduction.specs.Reduction.{first_rule, step, and_on, reduced}

@@ -13,8 +13,7 @@ use Rattle.std.proofs.lemmas.List.{get_or_append_left}
 use Rattle.std.proofs.lemmas.List.Folds.{list_any_more}
 use Rattle.std.proofs.lemmas.Option.{unwrap_or-slice_get}
 use Rattle.std.proofs.Math.Seq.{get_or-append_seam}
-use Rattle.graph_search.specs.Flows.{Flow, edge}
-use Rattle.graph_search.specs.Flows.{IsBounded}
+use Rattle.graph_search.specs.Flows.{Flow, edge, IsBounded}
 use Rattle.graph_reduction.specs.Nodes.{number_in, state_of, AreReady, AreNodes, Refreshes}
 use Rattle.graph_reduction.specs.Reduction.{State, start, fits_one, fits_two}
 use Rattle.graph_reduction.specs.Sets.{edge_cmp, in_set}

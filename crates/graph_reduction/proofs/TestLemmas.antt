@@ -3,9 +3,8 @@ use Rattle.std.proofs.Common.{◌≡◌, refl, sym, ap, ◌∙◌, subst, ℕ, �
 use Rattle.std.specs.Prelude.{◌≢◌, ◌&&◌, not, ◌==◌, Option, Some, None, is_some, option_map}
 use Rattle.std.specs.BTreeSet.{BTreeSet}
 use Rattle.std.proofs.lemmas.Bool.{cases_eq, and_parts, and_from, eqb-true, eq-eqb, ne_eqb, false≢true, false_from_ne_true}
-use Rattle.graph_search.specs.Flows.{Flow, edge}
+use Rattle.graph_search.specs.Flows.{Flow, edge, IsBounded}
 use Rattle.graph_reduction.specs.Labels.{Labelled}
-use Rattle.graph_search.specs.Flows.{IsBounded}
 use Rattle.graph_reduction.specs.Nodes.{state_of, AreHeld, AreNumbers}
 use Rattle.graph_reduction.specs.Reduction.{first_below, is_open, fits_one, giver_of, fits_two}
 use Rattle.graph_reduction.specs.Sets.{in_set, HoldsOpen}

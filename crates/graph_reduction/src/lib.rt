@@ -4,7 +4,7 @@
 //! block is a node, whose head it is. (1) Where an edge leads from a node to its own head, each edge from the node's
 //! blocks to the head closes a loop. (2) A node into which open edges lead from one other node alone is put into that
 //! node. This is the interval reduction of flow graphs (M. S. Hecht and J. D. Ullman, 'Characterizations of reducible
-//! flow graphs', 1974, with T1 and T2 as the two rules).
+//! flow graphs', 1974, where they are the two transformations).
 //!
 //! [`Nodes::start`] makes the nodes of a graph, [`Nodes::reduce`] uses the rules until neither fits, and
 //! [`Nodes::closings`] lists the closing edges. What they mean stands in `specs/Reduction.antt`; the laws say that the
@@ -26,8 +26,7 @@ pub use edges::first_node;
 pub use nodes::{Nodes, number_at};
 
 /// Where no cycle is left without a closing edge, loops are entered by their headers alone, lie one in another or
-/// apart,
-/// and an edge closes exactly where each walk from the entry to its source passes its target.
+/// apart, and an edge closes exactly where each walk from the entry to its source passes its target.
 pub fn loops_are_nested()
     ensures { (flow : Flow) (s : State) → IsReduced flow s → (IsIrreducible flow s.closed → ⊥)
         → AreNested (leads (edge flow)) s.closed flow.entry }

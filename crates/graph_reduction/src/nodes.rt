@@ -4,14 +4,13 @@ ghost use Rattle.std.specs.Prelude.{IfOk, IfSome, IfNone, Some, None, ◌⊎◌,
 ghost use Rattle.std.specs.List.{list_any};
 ghost use Rattle.std.specs.Ordering.{nat_cmp};
 ghost use Rattle.std.specs.BTreeSet as tree;
-ghost use Rattle.graph_search.specs.Flows.{Flow, edge};
+ghost use Rattle.graph_search.specs.Flows.{Flow, edge, IsBounded};
 ghost use Rattle.graph_reduction.specs.Labels.{Labelled};
 ghost use Rattle.graph_reduction.specs.Reduction.{State, first_below, fits_one, fits_two, giver_of, close, put_into};
 ghost use Rattle.graph_reduction.specs.Reduction.{start, IsReduced};
 ghost use Rattle.graph_reduction.specs.Advances.{Advanced};
 ghost use Rattle.graph_reduction.specs.ClosingEdges.{AreClosings};
 ghost use Rattle.graph_reduction.specs.Sets.{edge_cmp, HasExactly, in_set};
-ghost use Rattle.graph_search.specs.Flows.{IsBounded};
 ghost use Rattle.graph_reduction.specs.Nodes.{number_in, state_of, AreHeld, AreNumbers, AreMembers, AreReady};
 ghost use Rattle.graph_reduction.specs.Nodes.{Refreshes};
 ghost use Rattle.graph_reduction.specs.FirstNodes.{row_added};

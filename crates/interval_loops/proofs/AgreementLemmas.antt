@@ -9,10 +9,8 @@ use Rattle.graph_search.specs.Walks.{Walk, Reached, aside}
 use Rattle.graph_search.proofs.ListLemmas.{nat_equality, holds_first, holds_right, no_more}
 use Rattle.graph_search.proofs.WalkLemmas.{weaker, after_point}
 use Rattle.graph_search.proofs.SearchLemmas.{holds_at}
-use Rattle.graph_search.specs.Flows.{Flow, edge}
-use Rattle.graph_search.specs.Flows.{leads}
+use Rattle.graph_search.specs.Flows.{Flow, edge, leads, IsBounded}
 use Rattle.graph_reduction.specs.Loops.{stays, ClosesLoops, InLoop, IsIrreducible}
-use Rattle.graph_search.specs.Flows.{IsBounded}
 use Rattle.graph_reduction.specs.Reduction.{State, IsReduced}
 use Rattle.graph_reduction.proofs.EndLemmas.{reduced_agree}
 use Rattle.graph_reduction.proofs.NestingLemmas.{without_closing, are_nested}

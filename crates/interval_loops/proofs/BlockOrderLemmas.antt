@@ -16,10 +16,8 @@ use Rattle.graph_search.specs.NodeLists.{holds, Distinct}
 use Rattle.graph_search.proofs.ListLemmas.{nat_equality, holds_left, holds_right, holds_parts, holds_one, holds_first, distinct_end}
 use Rattle.graph_search.proofs.ListLemmas.{no_more}
 use Rattle.graph_search.proofs.SearchLemmas.{take_next, get_within, holds_at, back_steps_make_a_cycle}
-use Rattle.graph_search.specs.Flows.{Flow, edge}
-use Rattle.graph_search.specs.Flows.{leads}
+use Rattle.graph_search.specs.Flows.{Flow, edge, leads, IsBounded}
 use Rattle.graph_reduction.specs.Loops.{stays, IsIrreducible}
-use Rattle.graph_search.specs.Flows.{IsBounded}
 use Rattle.graph_reduction.specs.Nodes.{AreHeld}
 use Rattle.graph_reduction.specs.Sets.{edge_cmp, in_set}
 use Rattle.graph_reduction.proofs.MoveLemmas.{edge_at}

@@ -1,7 +1,6 @@
 -- A reduced graph whose open edges rise has closing edges as the laws want them.
 use Rattle.std.proofs.Common.{sym, subst, ℕ}
-use Rattle.graph_search.specs.Flows.{Flow, edge}
-use Rattle.graph_search.specs.Flows.{leads}
+use Rattle.graph_search.specs.Flows.{Flow, edge, leads}
 use Rattle.graph_reduction.specs.Loops.{stays, ClosesLoops}
 use Rattle.graph_reduction.specs.Reduction.{State, start, IsReduced}
 use Rattle.graph_reduction.proofs.RankLemmas.{ranked_ends}

@@ -11,8 +11,7 @@ use Rattle.graph_search.specs.Walks.{Walk, Reached, aside}
 use Rattle.graph_search.proofs.ListLemmas.{nat_equality, holds_left, holds_right, holds_parts, holds_one, holds_first, no_more}
 use Rattle.graph_search.proofs.WalkLemmas.{in_front}
 use Rattle.graph_search.proofs.SearchLemmas.{holds_at}
-use Rattle.graph_search.specs.Flows.{Flow, edge}
-use Rattle.graph_search.specs.Flows.{leads}
+use Rattle.graph_search.specs.Flows.{Flow, edge, leads}
 use Rattle.graph_reduction.specs.Loops.{InLoop}
 use Rattle.graph_search.specs.Orders.{Rising}
 use Rattle.interval_loops.specs.BlockOrders.{place}

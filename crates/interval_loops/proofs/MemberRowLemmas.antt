@@ -12,11 +12,9 @@ use Rattle.graph_search.specs.NodeLists.{holds, Distinct, added, added_all}
 use Rattle.graph_search.proofs.ListLemmas.{nat_equality, holds_one, holds_first, from_all}
 use Rattle.graph_search.proofs.SearchLemmas.{holds_at, take_next, start_searched}
 use Rattle.graph_search.specs.Searches.{Searched}
-use Rattle.graph_search.specs.Flows.{Flow}
-use Rattle.graph_search.specs.Flows.{IsBounded}
+use Rattle.graph_search.specs.Flows.{Flow, IsBounded}
 use Rattle.std.proofs.Math.Numerals.{add-one}
 use Rattle.graph_search.proofs.BelowLemmas.{few_below}
-use Rattle.graph_search.specs.Rows.{row_in}
 use Rattle.graph_search.specs.Rows.{row_in}
 use Rattle.graph_search.proofs.RowLemmas.{holds_end, inside_at}
 

@@ -12,13 +12,11 @@ use Rattle.std.proofs.Math.Seq.{get_or-append_seam}
 use Rattle.graph_search.specs.NodeLists.{holds}
 use Rattle.graph_search.proofs.ListLemmas.{nat_equality, holds_right, holds_first}
 use Rattle.graph_search.proofs.SearchLemmas.{holds_at}
-use Rattle.graph_search.specs.Flows.{Flow, edge}
-use Rattle.graph_search.specs.Flows.{leads}
+use Rattle.graph_search.specs.Flows.{Flow, edge, leads, IsBounded}
 use Rattle.graph_reduction.specs.Loops.{stays, IsIrreducible}
 use Rattle.graph_reduction.specs.ClosingEdges.{AreClosings}
 use Rattle.graph_reduction.proofs.RankLemmas.{ranked_ends}
 use Rattle.graph_reduction.specs.Nodes.{number_in, state_of, AreHeld, AreReady}
-use Rattle.graph_search.specs.Flows.{IsBounded}
 use Rattle.graph_reduction.specs.Reduction.{State, IsReduced}
 use Rattle.graph_reduction.specs.Sets.{in_set}
 use Rattle.interval_loops.specs.declared.nest.LoopInfo.{LoopInfo}

@@ -9,17 +9,15 @@ use Rattle.graph_search.specs.NodeLists.{holds, Distinct}
 use Rattle.graph_search.specs.Walks.{Walk, Reached, aside, Passes}
 use Rattle.graph_search.proofs.ListLemmas.{nat_equality, holds_left, holds_right, holds_parts, holds_one, holds_first}
 use Rattle.graph_search.proofs.WalkLemmas.{weaker, after_point, avoids_end}
-use Rattle.graph_search.specs.Flows.{Flow, edge}
-use Rattle.graph_search.specs.Flows.{leads}
+use Rattle.graph_search.specs.Flows.{Flow, edge, leads}
 use Rattle.graph_reduction.specs.Loops.{stays, ClosesLoops, InLoop, AreNested}
 use Rattle.graph_reduction.proofs.NestingLemmas.{without_closing, header_takes, are_nested}
 use Rattle.graph_reduction.proofs.RankLemmas.{walk_rises}
-use Rattle.interval_loops.specs.Loops.{AreLoops, IsOrder, AreEnds, flow_with}
+use Rattle.interval_loops.specs.Loops.{AreLoops, IsOrder, AreEnds, flow_with, IsRound}
 use Rattle.interval_loops.specs.Rounds.{last_or, after, RisesOpen, AreRound, loops_by, within_by, round_by}
 use Rattle.graph_search.specs.Orders.{Rising}
 use Rattle.std.proofs.Math.Seq.{get_or-append_seam}
 use Rattle.std.proofs.lemmas.Bool.Decides.{nat_tests}
-use Rattle.interval_loops.specs.Loops.{IsRound}
 use Rattle.graph_search.proofs.RowLemmas.{held_at}
 use Rattle.interval_loops.proofs.LastLemmas.{split, last_over, last_in, ended, next_one, one_before}
 use Rattle.graph_search.proofs.OrderLemmas.{rising_front, rising_before, rising_behind, rising_distinct, rising_same}

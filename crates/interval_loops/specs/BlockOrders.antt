@@ -22,8 +22,7 @@ Follows false into t xs ys = ys ≡ xs
 Follows true into t xs ys = ListsFree into t xs ys
 
 -- Of the first set's edges the other set has those that don't come from the first m listed blocks, at least; and none
--- from the
--- first n. Listed are, of the blocks that are due, those to which none of its edges leads.
+-- from the first n. Listed are, of the blocks that are due, those to which none of its edges leads.
 pub record IsListing (due : ℕ → Bool) (flow : Flow) (label : ℕ → ℕ) (first into : BTreeSet (ℕ × ℕ × ℕ)) (n m : ℕ)
     (order : List ℕ) : Type 0 where
   pub few : n ≤ m

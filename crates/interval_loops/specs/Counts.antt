@@ -1,6 +1,5 @@
 -- The count of a loop along a history of blocks: its closing edges since its last entry, 0 before any entry. It goes by
--- the
--- loop's number, so that it is also said of loops that were left.
+-- the loop's number, so that it is also said of loops that were left.
 use Rattle.std.specs.Prelude.{ℕ, ◌+◌, Bool, not, ◌&&◌, if◌then◌else◌, nat_eq, List, [], ◌∷◌}
 use Rattle.interval_loops.specs.Loops.{LoopFlow}
 

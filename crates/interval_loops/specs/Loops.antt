@@ -2,8 +2,7 @@
 use Rattle.std.specs.Prelude.{◌≡◌, ◌≢◌, ℕ, ◌+◌, ◌≤◌, ◌<◌, Bool, true, false, if◌then◌else◌, nat_eq, Option, Some, None}
 
 -- Loops by their numbers, from 1 on; 0 stands for the whole function. The header of each, the loop in which it lies,
--- the
--- innermost loop round a block, and the loop next inside a loop that holds a block.
+-- the innermost loop round a block, and the loop next inside a loop that holds a block.
 pub record Loops : Type 0 where
   pub header : ℕ → ℕ
   pub parent : ℕ → ℕ
@@ -56,8 +55,7 @@ pub record AreEnds (l : Loops) (within : ℕ → ℕ → Bool) (rank : ℕ → �
   pub has_header : (d b : ℕ) → d ≢ 0 → within d b ≡ true → within d (l.header d) ≡ true
 
 -- A flow graph with its loops: its edges, where control leaves it, the entry, which block is in which loop, the node
--- that
--- stands for a block in a loop's level, and each loop's header.
+-- that stands for a block in a loop's level, and each loop's header.
 pub record LoopFlow : Type 0 where
   pub next : ℕ → ℕ → Bool
   pub ends : ℕ → Bool

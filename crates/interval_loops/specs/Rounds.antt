@@ -3,8 +3,7 @@ use Rattle.std.specs.Prelude.{◌≡◌, ◌≢◌, ℕ, ◌<◌, ◌≤◌, Boo
 use Rattle.std.specs.Prelude.{◌++◌, length, slice_index_or}
 use Rattle.graph_search.specs.Orders.{Rising}
 use Rattle.graph_search.specs.NodeLists.{holds}
-use Rattle.graph_search.specs.Flows.{Flow, edge}
-use Rattle.graph_search.specs.Flows.{leads}
+use Rattle.graph_search.specs.Flows.{Flow, edge, leads}
 use Rattle.graph_reduction.specs.Loops.{stays, InLoop}
 use Rattle.interval_loops.specs.Loops.{Loops}
 
@@ -26,8 +25,8 @@ abbrev pub RisesOpen : Flow → (ℕ → ℕ → Bool) → (ℕ → ℕ) → Typ
 RisesOpen flow closed rank = (u v : ℕ) → stays (leads (edge flow)) closed u v → rank u < rank v
 
 -- The numbers of the loops round each block, in the order of their headers' ranks, and what follows from them: the
--- innermost,
--- the loop in which a loop lies, and how many loops are round a header. Numbers of no loop lie in the whole function.
+-- innermost, the loop in which a loop lies, and how many loops are round a header. Numbers of no loop lie in the whole
+-- function.
 pub record AreRound (flow : Flow) (closed : ℕ → ℕ → Bool) (rank header parent inner at : ℕ → ℕ) (around : ℕ → List ℕ)
     (deepest : ℕ) : Type 0 where
   pub inside : (d b : ℕ) → holds nat_eq d (around b) ≡ true → (d ≢ 0) × InLoop (leads (edge flow)) closed (header d) b

@@ -3,8 +3,7 @@ use Rattle.std.specs.Prelude.{◌≡◌, ◌≢◌, ℕ, zero, suc, ◌<◌, ◌
 use Rattle.std.specs.Prelude.{slice_index_or, List, [], ◌∷◌, ◌++◌, length}
 use Rattle.graph_search.specs.Rows.{row_in}
 use Rattle.graph_search.specs.NodeLists.{holds, Distinct, MoreThan}
-use Rattle.graph_search.specs.Flows.{Flow, edge}
-use Rattle.graph_search.specs.Flows.{leads}
+use Rattle.graph_search.specs.Flows.{Flow, edge, leads}
 use Rattle.graph_reduction.specs.Loops.{InLoop}
 use Rattle.graph_search.specs.Orders.{Rising}
 use Rattle.interval_loops.specs.BlockOrders.{place}

@@ -10,8 +10,7 @@ pub record Ran : Type 0 where
   pub missed : ℕ → Bool
 
 -- A visit of a block: a block that ran, and for each depth when the loop of that depth round it was entered, and how
--- many
--- closing edges to that loop's header were taken since.
+-- many closing edges to that loop's header were taken since.
 pub record Visit : Type 0 where
   pub block : ℕ
   pub spent : ℕ

@@ -2,9 +2,8 @@
 //!
 //! [`loops`] reduces the graph (`graph_reduction`), puts its blocks in an order in which each edge that closes no loop
 //! leads onward, and collects the blocks of each loop. A graph with a cycle that no closing edge cuts is irreducible
-//! and
-//! refused, as is one that has more than sixteen loops round a block. Loops have numbers from 1 on, by their headers;
-//! 0 stands for the whole function.
+//! and refused, as is one that has more than sixteen loops round a block. Loops have numbers from 1 on, by their
+//! headers; 0 stands for the whole function.
 //!
 //! What loops are to the layers above stands in `specs/Loops.antt`; the law [`nests_are_loops`] gives it of each nest.
 #![tactic(auto)]
@@ -31,10 +30,8 @@ pub use bodies::LoopRefusal;
 pub use nest::{LoopInfo, LoopNest, loops};
 
 /// A nest of a graph whose blocks are all reached is what loops are to be (`AreLoops`), with an order in which each
-/// block
-/// but the entry has an edge from before it, with the three numbers past the blocks as start and ends, and with the
-/// loop
-/// of each depth round a block.
+/// block but the entry has an edge from before it, with the three numbers past the blocks as start and ends, and with
+/// the loop of each depth round a block.
 pub fn nests_are_loops()
     ensures { (flow : Flow) (n : LoopNestValue) (ends : ℕ → Bool)
         → ((b : ℕ) → b < flow.count → Reached (leads (edge flow)) flow.entry b) → IsNestOf flow n

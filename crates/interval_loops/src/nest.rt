@@ -1,9 +1,8 @@
 //! The nest of a graph's loops.
 ghost use Rattle.std.specs.Prelude.{◌≡◌, ℕ, ◌<◌, ◌≤◌, ◌^◌, ◌++◌, ◌∷◌, [], true, nat_eq, length, map, IfOk, OnOk};
 ghost use Rattle.std.specs.Prelude.{IsErrOf};
-ghost use Rattle.graph_search.specs.Flows.{Flow};
+ghost use Rattle.graph_search.specs.Flows.{Flow, IsBounded};
 ghost use Rattle.graph_reduction.specs.Loops.{IsIrreducible};
-ghost use Rattle.graph_search.specs.Flows.{IsBounded};
 ghost use Rattle.graph_reduction.specs.Reduction.{State, IsReduced};
 ghost use Rattle.graph_reduction.specs.NodeStates.{state_in, AreWhole};
 ghost use Rattle.graph_search.specs.NodeLists.{holds};

@@ -2,9 +2,8 @@
 ghost use Rattle.std.specs.Prelude.{◌≡◌, ℕ, ◌+◌, ◌<◌, ◌^◌, nat_lt, if◌then◌else◌, false, ◌&&◌, ◌==◌, Some, slice_get};
 ghost use Rattle.std.specs.Prelude.{length, IfOk, OnOk};
 ghost use Rattle.std.specs.BTreeSet as tree;
-ghost use Rattle.graph_search.specs.Flows.{Flow};
+ghost use Rattle.graph_search.specs.Flows.{Flow, IsBounded};
 ghost use Rattle.graph_reduction.specs.Nodes.{number_in, AreHeld};
-ghost use Rattle.graph_search.specs.Flows.{IsBounded};
 ghost use Rattle.graph_reduction.specs.Sets.{in_set};
 ghost use Rattle.interval_loops.specs.BlockOrders.{IsListing, ListsFree, Follows};
 

@@ -3,8 +3,7 @@ ghost use Rattle.std.specs.Prelude.{◌≡◌, ◌≢◌, ℕ, ◌<◌, ◌≤�
 ghost use Rattle.std.specs.Prelude.{nat_eq, nat_lt, List, [], length, IfOk, OnOk};
 ghost use Rattle.std.specs.List.{list_any};
 ghost use Rattle.graph_search.specs.NodeLists.{holds};
-ghost use Rattle.graph_search.specs.Flows.{Flow, edge};
-ghost use Rattle.graph_search.specs.Flows.{IsBounded};
+ghost use Rattle.graph_search.specs.Flows.{Flow, edge, IsBounded};
 ghost use Rattle.graph_reduction.specs.Sets.{in_set};
 ghost use Rattle.graph_search.specs.Orders.{Rising};
 ghost use Rattle.graph_search.specs.Rows.{row_in, RowMore};

@@ -6,13 +6,10 @@ use Rattle.std.specs.List.{AllByRecursion}
 use Rattle.tree_law.specs.Ways.{IsIn, Path}
 use Rattle.tree_law.specs.Levels.{Level, IsEnd, Nest}
 use Rattle.tree_law.specs.Nests.{IsNest}
-use Rattle.interval_loops.specs.Loops.{AreEnds, AreLoops, IsOrder, Loops, child_in, node_in}
+use Rattle.interval_loops.specs.Loops.{AreEnds, AreLoops, IsOrder, Loops, child_in, node_in, IsRound, LoopFlow}
 use Rattle.tree_law.specs.LevelEdges.{AreLevels, EdgesOf, IsLevelEdge, Reaches}
-use Rattle.interval_loops.specs.Loops.{IsRound}
-use Rattle.interval_loops.specs.Loops.{LoopFlow}
-use Rattle.interval_loops.specs.Trails.{Follows, Leaves}
+use Rattle.interval_loops.specs.Trails.{Follows, Leaves, Visit}
 use Rattle.tree_law.specs.Trails.{IsTrail, Paid, IsCut}
-use Rattle.interval_loops.specs.Trails.{Visit}
 use Rattle.wsym_terms.specs.Extents.{Extent, Finite, Infinite, IsWithin}
 
 -- blocks 0, 1, 2; the start 3, the turn 4, the leaving 5

@@ -2,12 +2,10 @@
 use Rattle.std.proofs.Common.{◌≡◌, ℕ, ◌+◌, ◌≤◌, ◌<◌, Bool, true, false, if◌then◌else◌, List, [], ◌∷◌, ◌++◌, refl, sym, ap, subst, ◌∙◌}
 use Rattle.std.proofs.Common.{arith}
 use Rattle.std.specs.List.{AllByRecursion}
-use Rattle.interval_loops.specs.Trails.{Visit}
+use Rattle.interval_loops.specs.Trails.{Visit, Ran, next_visit, last_visit}
 use Rattle.tree_law.specs.Pieces.{over}
 use Rattle.tree_law.specs.Levels.{Nest}
-use Rattle.interval_loops.specs.Loops.{LoopFlow}
-use Rattle.interval_loops.specs.Trails.{Ran, next_visit, last_visit}
-use Rattle.interval_loops.specs.Loops.{IsRound}
+use Rattle.interval_loops.specs.Loops.{LoopFlow, IsRound}
 
 -- What counts 0 or 1, and 1 only where nothing before it counts, counts at most 1 in all.
 abbrev pub Firsts : (Visit → ℕ) → ℕ → List Visit → Type 0

@@ -2,13 +2,10 @@
 use Rattle.std.proofs.Common.{◌≡◌, ℕ, ◌+◌, ◌≤◌, inl, Bool, true, false, if◌then◌else◌, nat_eq, List, [], ◌∷◌, refl, ap, ◌∙◌}
 use Rattle.std.specs.List.{AllByRecursion}
 use Rattle.wsym_terms.specs.Extents.{Extent}
-use Rattle.interval_loops.specs.Trails.{Visit}
+use Rattle.interval_loops.specs.Trails.{Visit, Follows, Ran, first_visit, next_visit, visits_after, IsWalk}
 use Rattle.tree_law.specs.Levels.{Nest}
-use Rattle.interval_loops.specs.Loops.{LoopFlow}
-use Rattle.interval_loops.specs.Trails.{Follows}
+use Rattle.interval_loops.specs.Loops.{LoopFlow, IsRound}
 use Rattle.tree_law.specs.Trails.{Paid, Stays, IsTrail}
-use Rattle.interval_loops.specs.Trails.{Ran, first_visit, next_visit, visits_after, IsWalk}
-use Rattle.interval_loops.specs.Loops.{IsRound}
 use Rattle.interval_loops.proofs.VisitLemmas.{follows}
 
 module _ (miss : ℕ) (bounds : ℕ → Extent) (n : Nest) (f : LoopFlow) (at : ℕ → ℕ) (round : ℕ → ℕ → ℕ) (is : IsRound f at round) where

@@ -3,12 +3,11 @@ use Rattle.std.proofs.Common.{◌≡◌, ◌≢◌, ℕ, zero, suc, ◌+◌, ◌
 use Rattle.std.proofs.Common.{None, List, [], ◌∷◌, ◌++◌, refl, sym, ap, subst, ◌∙◌, arith}
 use Rattle.std.proofs.lemmas.Bool.Decides.{nat_tests}
 use Rattle.wsym_terms.specs.Extents.{Extent, IsWithin}
-use Rattle.interval_loops.specs.Trails.{Visit}
+use Rattle.interval_loops.specs.Trails.{Visit, Leaves, Follows}
 use Rattle.tree_law.specs.Pieces.{over, differs}
 use Rattle.tree_law.specs.Ways.{Tracks, EdgePiece}
 use Rattle.tree_law.specs.Levels.{Step, Turns, Goes, pieces, turned, Level, Inside, LoopRun, Nest, run_of, NodeRun, BlockRun, FunctionRun}
 use Rattle.interval_loops.specs.Loops.{LoopFlow}
-use Rattle.interval_loops.specs.Trails.{Leaves, Follows}
 use Rattle.tree_law.specs.Trails.{Paid, Stays, IsCut, IsTrail}
 use Rattle.tree_law.proofs.LevelLemmas.{Straight, Turned, in_front, cut as cut_level}
 

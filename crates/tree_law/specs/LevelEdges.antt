@@ -2,10 +2,9 @@
 use Rattle.std.specs.Prelude.{◌≡◌, ◌≢◌, ℕ, ◌+◌, ◌≤◌, ◌<◌, ◌⊎◌, Bool, true, false, if◌then◌else◌, nat_eq, List, Option}
 use Rattle.std.specs.Prelude.{Some, None}
 use Rattle.wsym_terms.specs.Trees.{greatest_scope}
-use Rattle.interval_loops.specs.Loops.{Loops, node_in, child_in}
+use Rattle.interval_loops.specs.Loops.{Loops, node_in, child_in, LoopFlow}
 use Rattle.tree_law.specs.Ways.{IsIn, Path}
 use Rattle.tree_law.specs.Levels.{IsEnd, Nest}
-use Rattle.interval_loops.specs.Loops.{LoopFlow}
 
 -- Each edge of the flow is an edge of its levels.
 pub record EdgesOf (l : Loops) (next : ℕ → ℕ → Bool) (within : ℕ → ℕ → Bool) (entry : ℕ) (ends : ℕ → Bool)

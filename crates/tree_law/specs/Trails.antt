@@ -2,10 +2,9 @@
 use Rattle.std.specs.Prelude.{◌≡◌, ◌≢◌, ℕ, ◌+◌, ◌*◌, ◌<◌, ◌≤◌, ◌⊎◌, Bool, true, false, if◌then◌else◌, nat_eq, List, []}
 use Rattle.std.specs.Prelude.{◌∷◌, length, Some, None}
 use Rattle.wsym_terms.specs.Extents.{Extent, IsWithin}
-use Rattle.interval_loops.specs.Trails.{Visit}
+use Rattle.interval_loops.specs.Trails.{Visit, Follows, Leaves}
 use Rattle.tree_law.specs.Pieces.{misses}
 use Rattle.interval_loops.specs.Loops.{LoopFlow}
-use Rattle.interval_loops.specs.Trails.{Visit, Follows, Leaves}
 use Rattle.tree_law.specs.Levels.{Nest}
 
 -- a visit costs at most its block with its misses, and its loops turn no more than their bounds

@@ -13,12 +13,9 @@ ghost use Rattle.wsym_terms.specs.Trees.{tree_value};
 ghost use Rattle.tree_law.specs.Levels.{BlockRun, FunctionRun, Nest, function_tree, scopes_of};
 ghost use Rattle.tree_law.specs.Nests.{IsNest};
 ghost use Rattle.tree_law.specs.Pieces.{AtMostOnce, Same, total};
-ghost use Rattle.interval_loops.specs.Trails.{Visit};
-ghost use Rattle.interval_loops.specs.Loops.{AreEnds, AreLoops, IsOrder, Loops, flow_with};
+ghost use Rattle.interval_loops.specs.Trails.{Visit, IsWalk, Ran, all_visits};
+ghost use Rattle.interval_loops.specs.Loops.{AreEnds, AreLoops, IsOrder, Loops, flow_with, IsRound, LoopFlow};
 ghost use Rattle.tree_law.specs.LevelEdges.{AreLevels, EdgesOf};
-ghost use Rattle.interval_loops.specs.Loops.{IsRound};
-ghost use Rattle.interval_loops.specs.Trails.{IsWalk, Ran, all_visits};
-ghost use Rattle.interval_loops.specs.Loops.{LoopFlow};
 ghost use Rattle.tree_law.specs.Trails.{IsCut, IsTrail, Paid};
 
 /// A run that is cut into the levels of loops costs at most the value of the function's tree.

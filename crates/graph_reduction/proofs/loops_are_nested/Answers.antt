@@ -1,6 +1,5 @@
 use Rattle.std.proofs.Common.{sym, subst}
-use Rattle.graph_search.specs.Flows.{edge}
-use Rattle.graph_search.specs.Flows.{leads}
+use Rattle.graph_search.specs.Flows.{edge, leads}
 use Rattle.graph_reduction.specs.Reduction.{State, start}
 use Rattle.graph_reduction.proofs.NestingLemmas.{are_nested}
 use Rattle.graph_reduction.proofs.ReductionLemmas.{IsKept, start_kept, reduced_kept}

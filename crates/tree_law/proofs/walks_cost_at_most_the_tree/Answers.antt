@@ -1,8 +1,7 @@
 use Rattle.std.proofs.Common.{◌≡◌, ◌≤◌, ℕ, suc, List, [], ◌∷◌, true, refl, sym, ap, ◌∙◌, arith}
-use Rattle.interval_loops.specs.Loops.{flow_with}
+use Rattle.interval_loops.specs.Loops.{flow_with, LoopFlow}
 use Rattle.tree_law.specs.LevelEdges.{level_rank}
 use Rattle.interval_loops.specs.Trails.{Ran, IsWalk, first_visit, visits_after}
-use Rattle.interval_loops.specs.Loops.{LoopFlow}
 use Rattle.tree_law.proofs.NestLemmas.{function_bound}
 use Rattle.tree_law.proofs.NodeLemmas.{levels_nest, loops_cut}
 use Rattle.tree_law.proofs.StampLemmas.{walk_is_trail}

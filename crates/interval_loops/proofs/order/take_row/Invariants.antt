@@ -2,8 +2,7 @@ use Rattle.std.proofs.Common.{◌≡◌, ℕ, ◌<◌, take}
 use Rattle.std.specs.Prelude.{◌==◌, nat_lt, Some, slice_get}
 use Rattle.std.specs.List.{list_any}
 use Rattle.std.specs.BTreeSet.{BTreeSet}
-use Rattle.graph_search.specs.Flows.{Flow}
-use Rattle.graph_search.specs.Flows.{IsBounded}
+use Rattle.graph_search.specs.Flows.{Flow, IsBounded}
 use Rattle.graph_reduction.specs.Nodes.{AreHeld}
 use Rattle.interval_loops.specs.BlockOrders.{IsListing, IsPartly}
 use Rattle.interval_loops.proofs.order.take_row.Given as goal
