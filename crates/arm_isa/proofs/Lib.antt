@@ -1,3 +1,4 @@
+pub mod GuardLemmas
 pub mod KnownWords
 pub mod RangeLemmas
 pub mod TableLemmas

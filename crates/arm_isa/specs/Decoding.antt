@@ -3,14 +3,20 @@
 -- chapter A3, single instructions in A4, operands and addresses in A5. Where the manual calls an
 -- encoding undefined or unpredictable, the comment says so; "own" marks a word that this project
 -- refuses though the manual gives it a meaning, or that belongs to another architecture or mode.
-use Rattle.std.specs.Prelude.{ℕ, ◌+◌, ◌*◌, ◌^◌, ◌==◌, ◌&&◌, ◌||◌, not, nat_le, nat_lt, Bool, false, ℤ, pos, ◌-ℤ◌, Option, None, Some, List, [], ◌∷◌, if◌then◌else◌}
+use Rattle.std.specs.Prelude.{ℕ, ◌+◌, ◌*◌, ◌^◌, ◌==◌, ◌&&◌, ◌||◌, not, nat_lt, Bool, false, ℤ, pos, ◌-ℤ◌, Option, None, Some, List, [], ◌∷◌, if◌then◌else◌}
 use Rattle.std.specs.Int.{rotate_right, w32}
 use Rattle.arm_isa.specs.Fields.{field, flag}
+use Rattle.arm_isa.specs.Conditions.{condition_numbered}
+use Rattle.arm_isa.specs.Opcodes.{is_move, is_test, opcode_numbered}
+use Rattle.arm_isa.specs.declared.conditions.Condition.{Condition}
+use Rattle.arm_isa.specs.declared.opcodes.Opcode.{Opcode}
 use Rattle.arm_isa.specs.declared.instruction.Insn.{Insn}
 use Rattle.arm_isa.specs.declared.instruction.Op.{Op}
-use Rattle.arm_isa.specs.declared.instruction.Op.TheVariants.{Compute, Multiply, Long, Word, Half, Many, Branch, Exchange}
+use Rattle.arm_isa.specs.declared.instruction.Op.TheVariants as op
 use Rattle.arm_isa.specs.declared.instruction.Operand.{Operand}
 use Rattle.arm_isa.specs.declared.instruction.Operand.TheVariants.{Value as Constant, Shifted as ShiftedOperand, ByRegister}
+use Rattle.arm_isa.specs.declared.instruction.ShiftKind.{ShiftKind}
+use Rattle.arm_isa.specs.declared.instruction.ShiftKind.TheVariants as kind
 use Rattle.arm_isa.specs.declared.instruction.Shift.{Shift}
 use Rattle.arm_isa.specs.declared.instruction.Shift.TheVariants.{Lsl, Lsr, Asr, Ror, Rrx}
 use Rattle.arm_isa.specs.declared.instruction.Offset.{Offset}
@@ -34,8 +40,11 @@ rs_field word = field word 8 4
 abbrev pub rm_field : ℕ → ℕ
 rm_field word = field word 0 4
 
-abbrev pub opcode_field : ℕ → ℕ
-opcode_field word = field word 21 4
+abbrev pub condition_field : ℕ → Condition
+condition_field word = condition_numbered (field word 28 4)
+
+abbrev pub opcode_field : ℕ → Opcode
+opcode_field word = opcode_numbered (field word 21 4)
 
 abbrev pub i_bit : ℕ → Bool
 i_bit word = flag word 25
@@ -63,16 +72,22 @@ pc = 15
 
 -- Shifts and operands ("Addressing Mode 1 - Data-processing operands").
 
+-- bits 6:5
+abbrev pub shift_kind_numbered : ℕ → ShiftKind
+shift_kind_numbered number = if number == 0 then kind.Lsl else if number == 1 then kind.Lsr else if number == 2 then kind.Asr else kind.Ror
+
+abbrev pub shift_kind_field : ℕ → ShiftKind
+shift_kind_field word = shift_kind_numbered (field word 5 2)
+
 -- an amount of 0 stands for a shift by 32 places to the right, and at ROR for RRX
-abbrev pub immediate_shift : ℕ → ℕ → Shift
-immediate_shift kind amount =
-    if kind == 0 then Lsl amount
-    else if kind == 1 then Lsr (if amount == 0 then 32 else amount)
-    else if kind == 2 then Asr (if amount == 0 then 32 else amount)
-    else if amount == 0 then Rrx else Ror amount
+abbrev pub immediate_shift : ShiftKind → ℕ → Shift
+immediate_shift kind.Lsl amount = Lsl amount
+immediate_shift kind.Lsr amount = Lsr (if amount == 0 then 32 else amount)
+immediate_shift kind.Asr amount = Asr (if amount == 0 then 32 else amount)
+immediate_shift kind.Ror amount = if amount == 0 then Rrx else Ror amount
 
 abbrev pub shift_field : ℕ → Shift
-shift_field word = immediate_shift (field word 5 2) (field word 7 5)
+shift_field word = immediate_shift (shift_kind_field word) (field word 7 5)
 
 abbrev pub shifted_by_register : ℕ → Bool
 shifted_by_register word = not (i_bit word) && flag word 4
@@ -80,7 +95,7 @@ shifted_by_register word = not (i_bit word) && flag word 4
 abbrev pub operand_field : ℕ → Operand
 operand_field word =
     if i_bit word then Constant (rotate_right w32 (field word 0 8) (2 * field word 8 4)) (not (field word 8 4 == 0))
-    else if flag word 4 then ByRegister (rm_field word) (field word 5 2) (rs_field word)
+    else if flag word 4 then ByRegister (rm_field word) (shift_kind_field word) (rs_field word)
     else ShiftedOperand (rm_field word) (shift_field word)
 
 -- Addresses ("Addressing Mode 2 - Load and Store Word or Unsigned Byte" and "Addressing Mode 3 -
@@ -115,7 +130,7 @@ abbrev pub exchange_refused : ℕ → Bool
 exchange_refused word = rm_field word == pc
 
 abbrev pub exchange_op : ℕ → Op
-exchange_op word = Exchange (rm_field word)
+exchange_op word = op.Exchange (record { rm = rm_field word })
 
 -- "Multiplies": MUL, MLA; here Rd stands at 19:16 and Rn at 15:12
 abbrev pub multiply_fits : ℕ → Bool
@@ -128,7 +143,14 @@ multiply_refused word =
     || (not (flag word 21) && not (rd_field word == 0))
 
 abbrev pub multiply_op : ℕ → Op
-multiply_op word = Multiply (flag word 21) (s_bit word) (field word 16 4) (field word 12 4) (rs_field word) (rm_field word)
+multiply_op word = op.Multiply (record {
+  accumulate = flag word 21;
+  set_flags = s_bit word;
+  rd = field word 16 4;
+  rn = field word 12 4;
+  rs = rs_field word;
+  rm = rm_field word;
+})
 
 -- "Multiplies": UMULL, UMLAL, SMULL, SMLAL; RdHi stands at 19:16 and RdLo at 15:12
 abbrev pub long_fits : ℕ → Bool
@@ -141,7 +163,15 @@ long_refused word =
     || (field word 16 4 == field word 12 4)
 
 abbrev pub long_op : ℕ → Op
-long_op word = Long (flag word 22) (flag word 21) (s_bit word) (field word 16 4) (field word 12 4) (rs_field word) (rm_field word)
+long_op word = op.MultiplyLong (record {
+  signed = flag word 22;
+  accumulate = flag word 21;
+  set_flags = s_bit word;
+  rd_hi = field word 16 4;
+  rd_lo = field word 12 4;
+  rs = rs_field word;
+  rm = rm_field word;
+})
 
 -- "Load and store halfword or signed byte": bits 6:5 are S and H
 abbrev pub half_fits : ℕ → Bool
@@ -163,7 +193,15 @@ abbrev pub half_offset : ℕ → Offset
 half_offset word = if flag word 22 then Bytes (16 * field word 8 4 + field word 0 4) else ShiftedOffset (rm_field word) (Lsl 0)
 
 abbrev pub half_op : ℕ → Op
-half_op word = Half (l_bit word) (half_kind word) (index_field word) (u_bit word) (rn_field word) (rd_field word) (half_offset word)
+half_op word = op.Half (record {
+  load = l_bit word;
+  kind = half_kind word;
+  index = index_field word;
+  up = u_bit word;
+  rn = rn_field word;
+  rd = rd_field word;
+  offset = half_offset word;
+})
 
 -- "Multiplies, extra load/store instructions": what else has bits 7 and 4 set, SWP among it (own)
 abbrev pub extension_fits : ℕ → Bool
@@ -172,14 +210,6 @@ extension_fits word = (field word 25 3 == 0) && flag word 7 && flag word 4
 -- "Data-processing immediate", "Data-processing immediate shift" and "Data-processing register shift"
 abbrev pub compute_fits : ℕ → Bool
 compute_fits word = field word 26 2 == 0
-
--- TST, TEQ, CMP and CMN
-abbrev pub is_test : ℕ → Bool
-is_test opcode = nat_le 8 opcode && nat_le opcode 11
-
--- MOV and MVN, which read no Rn
-abbrev pub is_move : ℕ → Bool
-is_move opcode = (opcode == 13) || (opcode == 15)
 
 -- r15 beside a shift by a register
 abbrev pub shift_refused : ℕ → Bool
@@ -199,7 +229,13 @@ compute_refused word =
     || shift_refused word
 
 abbrev pub compute_op : ℕ → Op
-compute_op word = Compute (opcode_field word) (s_bit word) (rn_field word) (rd_field word) (operand_field word)
+compute_op word = op.Compute (record {
+  opcode = opcode_field word;
+  set_flags = s_bit word;
+  rn = rn_field word;
+  rd = rd_field word;
+  operand = operand_field word;
+})
 
 -- "Load and store word or unsigned byte"
 abbrev pub word_fits : ℕ → Bool
@@ -216,25 +252,40 @@ abbrev pub word_offset : ℕ → Offset
 word_offset word = if i_bit word then ShiftedOffset (rm_field word) (shift_field word) else Bytes (field word 0 12)
 
 abbrev pub word_op : ℕ → Op
-word_op word = Word (l_bit word) (b_bit word) (index_field word) (u_bit word) (rn_field word) (rd_field word) (word_offset word)
+word_op word = op.Word (record {
+  load = l_bit word;
+  byte = b_bit word;
+  index = index_field word;
+  up = u_bit word;
+  rn = rn_field word;
+  rd = rd_field word;
+  offset = word_offset word;
+})
 
 -- "Load/store multiple"
-abbrev pub many_fits : ℕ → Bool
-many_fits word = field word 25 3 == 4
+abbrev pub block_fits : ℕ → Bool
+block_fits word = field word 25 3 == 4
 
 -- own: S (the registers of another mode); a store of r15, whose value the implementation chooses.
 -- Unpredictable: an empty list; r15 as base; a base that is written back and stands in the list (own for
 -- STM with the base as its lowest register)
-abbrev pub many_refused : ℕ → Bool
-many_refused word =
+abbrev pub block_refused : ℕ → Bool
+block_refused word =
     flag word 22
     || (field word 0 16 == 0)
     || (not (l_bit word) && flag word 15)
     || (rn_field word == pc)
     || (w_bit word && flag word (rn_field word))
 
-abbrev pub many_op : ℕ → Op
-many_op word = Many (l_bit word) (p_bit word) (u_bit word) (w_bit word) (rn_field word) (field word 0 16)
+abbrev pub block_op : ℕ → Op
+block_op word = op.Block (record {
+  load = l_bit word;
+  before = p_bit word;
+  up = u_bit word;
+  write_back = w_bit word;
+  rn = rn_field word;
+  list = field word 0 16;
+})
 
 -- "Branch and branch with link": a signed number of words in bits 23:0
 abbrev pub branch_fits : ℕ → Bool
@@ -244,7 +295,7 @@ abbrev pub branch_words : ℕ → ℤ
 branch_words word = if nat_lt (field word 0 24) (2 ^ 23) then pos (field word 0 24) else pos (field word 0 24) -ℤ pos (2 ^ 24)
 
 abbrev pub branch_op : ℕ → Op
-branch_op word = Branch (flag word 24) (branch_words word)
+branch_op word = op.Branch (record { link = flag word 24; words = branch_words word })
 
 -- what fits no line (coprocessors, software interrupts, undefined words) has no decoding
 abbrev pub table : List Line
@@ -256,13 +307,13 @@ table =
     ∷ Undefined extension_fits
     ∷ Decodes compute_fits compute_refused compute_op
     ∷ Decodes word_fits word_refused word_op
-    ∷ Decodes many_fits many_refused many_op
+    ∷ Decodes block_fits block_refused block_op
     ∷ Decodes branch_fits (λ _. false) branch_op
     ∷ []
 
 -- what a word means that a line fits; the condition stands in bits 31:28 of each
 abbrev pub unless : (ℕ → Bool) → (ℕ → Op) → ℕ → Option Insn
-unless refused meaning word = if refused word then None else Some (record { cond = field word 28 4; op = meaning word })
+unless refused meaning word = if refused word then None else Some (record { condition = condition_field word; op = meaning word })
 
 abbrev pub first_fit : List Line → ℕ → Option Insn
 first_fit [] word = None

@@ -3,7 +3,14 @@
 use Rattle.std.specs.Prelude.{◌<◌, ◌≤◌, ◌^◌, pos, neg_ℤ, ◌≤ℤ◌, ◌<ℤ◌}
 use Rattle.arm_isa.specs.declared.instruction.Insn.{Insn}
 use Rattle.arm_isa.specs.declared.instruction.Op.{Op}
-use Rattle.arm_isa.specs.declared.instruction.Op.TheVariants.{Compute, Multiply, Long, Word, Half, Many, Branch, Exchange}
+use Rattle.arm_isa.specs.declared.instruction.Op.TheVariants as op
+use Rattle.arm_isa.specs.declared.instruction.DataProcessing.{DataProcessing}
+use Rattle.arm_isa.specs.declared.instruction.Multiply.{Multiply}
+use Rattle.arm_isa.specs.declared.instruction.LongMultiply.{LongMultiply}
+use Rattle.arm_isa.specs.declared.instruction.WordTransfer.{WordTransfer}
+use Rattle.arm_isa.specs.declared.instruction.HalfTransfer.{HalfTransfer}
+use Rattle.arm_isa.specs.declared.instruction.BlockTransfer.{BlockTransfer}
+use Rattle.arm_isa.specs.declared.instruction.Branch.{Branch}
 use Rattle.arm_isa.specs.declared.instruction.Operand.{Operand}
 use Rattle.arm_isa.specs.declared.instruction.Operand.TheVariants.{Value as Constant, Shifted as ShiftedOperand, ByRegister}
 use Rattle.arm_isa.specs.declared.instruction.Shift.{Shift}
@@ -19,23 +26,44 @@ IsShift (Ror amount) = (0 < amount) × (amount < 32)
 IsShift Rrx = Unit {0}
 
 abbrev pub IsOperand : Operand → Type 0
-IsOperand (Constant value turned) = value < 2 ^ 32
+IsOperand (Constant value rotated) = value < 2 ^ 32
 IsOperand (ShiftedOperand rm shift) = (rm < 16) × IsShift shift
-IsOperand (ByRegister rm kind rs) = (rm < 15) × (kind < 4) × (rs < 15)
+IsOperand (ByRegister rm kind rs) = (rm < 15) × (rs < 15)
 
 abbrev pub IsOffset : Offset → Type 0
 IsOffset (Bytes value) = value < 2 ^ 12
 IsOffset (ShiftedOffset rm shift) = (rm < 15) × IsShift shift
 
+abbrev pub IsDataProcessing : DataProcessing → Type 0
+IsDataProcessing this = (this.rn < 16) × (this.rd < 16) × IsOperand this.operand
+
+abbrev pub IsMultiply : Multiply → Type 0
+IsMultiply this = (this.rd < 15) × (this.rn < 15) × (this.rs < 15) × (this.rm < 15)
+
+abbrev pub IsLongMultiply : LongMultiply → Type 0
+IsLongMultiply this = (this.rd_hi < 15) × (this.rd_lo < 15) × (this.rs < 15) × (this.rm < 15)
+
+abbrev pub IsWordTransfer : WordTransfer → Type 0
+IsWordTransfer this = (this.rn < 16) × (this.rd < 16) × IsOffset this.offset
+
+abbrev pub IsHalfTransfer : HalfTransfer → Type 0
+IsHalfTransfer this = (this.rn < 16) × (this.rd < 15) × IsOffset this.offset
+
+abbrev pub IsBlockTransfer : BlockTransfer → Type 0
+IsBlockTransfer this = (this.rn < 15) × (0 < this.list) × (this.list < 2 ^ 16)
+
+abbrev pub IsBranch : Branch → Type 0
+IsBranch this = (neg_ℤ (pos (2 ^ 23)) ≤ℤ this.words) × (this.words <ℤ pos (2 ^ 23))
+
 abbrev pub IsOp : Op → Type 0
-IsOp (Compute code flags rn rd operand) = (code < 16) × (rn < 16) × (rd < 16) × IsOperand operand
-IsOp (Multiply add flags rd rn rs rm) = (rd < 15) × (rn < 15) × (rs < 15) × (rm < 15)
-IsOp (Long signed add flags hi lo rs rm) = (hi < 15) × (lo < 15) × (rs < 15) × (rm < 15)
-IsOp (Word load byte index up rn rd offset) = (rn < 16) × (rd < 16) × IsOffset offset
-IsOp (Half load kind index up rn rd offset) = (rn < 16) × (rd < 15) × IsOffset offset
-IsOp (Many load before up back rn list) = (rn < 15) × (0 < list) × (list < 2 ^ 16)
-IsOp (Branch link words) = (neg_ℤ (pos (2 ^ 23)) ≤ℤ words) × (words <ℤ pos (2 ^ 23))
-IsOp (Exchange rm) = rm < 15
+IsOp (op.Compute this) = IsDataProcessing this
+IsOp (op.Multiply this) = IsMultiply this
+IsOp (op.MultiplyLong this) = IsLongMultiply this
+IsOp (op.Word this) = IsWordTransfer this
+IsOp (op.Half this) = IsHalfTransfer this
+IsOp (op.Block this) = IsBlockTransfer this
+IsOp (op.Branch this) = IsBranch this
+IsOp (op.Exchange this) = this.rm < 15
 
 abbrev pub IsInsn : Insn → Type 0
-IsInsn insn = (insn.cond ≤ 14) × IsOp insn.op
+IsInsn insn = IsOp insn.op

@@ -1,10 +1,10 @@
 -- The registers that a done instruction writes, and the instructions that go back to the caller.
 use Rattle.std.specs.Prelude.{ℕ, ◌==◌, ◌&&◌, ◌||◌, not, nat_lt, Bool, true, false}
 use Rattle.arm_isa.specs.Fields.{flag}
-use Rattle.arm_isa.specs.Decoding.{is_test}
+use Rattle.arm_isa.specs.Opcodes.{is_plain_move, is_test}
 use Rattle.arm_isa.specs.declared.instruction.Insn.{Insn}
 use Rattle.arm_isa.specs.declared.instruction.Op.{Op}
-use Rattle.arm_isa.specs.declared.instruction.Op.TheVariants.{Compute, Multiply, Long, Word, Half, Many, Branch, Exchange}
+use Rattle.arm_isa.specs.declared.instruction.Op.TheVariants as op
 use Rattle.arm_isa.specs.declared.instruction.Operand.{Operand}
 use Rattle.arm_isa.specs.declared.instruction.Operand.TheVariants.{Value as Constant, Shifted as ShiftedOperand, ByRegister}
 use Rattle.arm_isa.specs.declared.instruction.Shift.TheVariants.{Lsl, Lsr, Asr, Ror, Rrx}
@@ -25,21 +25,21 @@ is_listed list register = nat_lt register 16 && flag list register
 
 -- the destination, a written-back base, r14 of BL, and r15 of what goes to pc; the tests write none
 abbrev pub op_writes : Op → ℕ → Bool
-op_writes (Compute code flags rn rd operand) register = not (is_test code) && (register == rd)
-op_writes (Multiply add flags rd rn rs rm) register = register == rd
-op_writes (Long signed add flags hi lo rs rm) register = (register == hi) || (register == lo)
-op_writes (Word load byte index up rn rd offset) register = (load && (register == rd)) || (keeps_address index && (register == rn))
-op_writes (Half load kind index up rn rd offset) register = (load && (register == rd)) || (keeps_address index && (register == rn))
-op_writes (Many load before up back rn list) register = (load && is_listed list register) || (back && (register == rn))
-op_writes (Branch link words) register = (register == 15) || (link && (register == 14))
-op_writes (Exchange rm) register = register == 15
+op_writes (op.Compute this) register = not (is_test this.opcode) && (register == this.rd)
+op_writes (op.Multiply this) register = register == this.rd
+op_writes (op.MultiplyLong this) register = (register == this.rd_hi) || (register == this.rd_lo)
+op_writes (op.Word this) register = (this.load && (register == this.rd)) || (keeps_address this.index && (register == this.rn))
+op_writes (op.Half this) register = (this.load && (register == this.rd)) || (keeps_address this.index && (register == this.rn))
+op_writes (op.Block this) register = (this.load && is_listed this.list register) || (this.write_back && (register == this.rn))
+op_writes (op.Branch this) register = (register == 15) || (this.link && (register == 14))
+op_writes (op.Exchange this) register = register == 15
 
 abbrev pub writes_register : Insn → ℕ → Bool
 writes_register insn register = op_writes insn.op register
 
 -- r14, not shifted
 abbrev pub is_link_register : Operand → Bool
-is_link_register (Constant value turned) = false
+is_link_register (Constant value rotated) = false
 is_link_register (ByRegister rm kind rs) = false
 is_link_register (ShiftedOperand rm (Lsl amount)) = (rm == 14) && (amount == 0)
 is_link_register (ShiftedOperand rm (Lsr amount)) = false
@@ -58,14 +58,14 @@ is_one_word (ShiftedOffset rm shift) = false
 
 -- MOV r15,r14 without S; LDR r15,[r13],#4; LDMIA r13! with r15 in its list; BX r14
 abbrev pub op_returns : Op → Bool
-op_returns (Compute code flags rn rd operand) = (code == 13) && not flags && (rd == 15) && is_link_register operand
-op_returns (Multiply add flags rd rn rs rm) = false
-op_returns (Long signed add flags hi lo rs rm) = false
-op_returns (Word load byte index up rn rd offset) = load && not byte && is_after index && up && (rn == 13) && (rd == 15) && is_one_word offset
-op_returns (Half load kind index up rn rd offset) = false
-op_returns (Many load before up back rn list) = load && not before && up && back && (rn == 13) && is_listed list 15
-op_returns (Branch link words) = false
-op_returns (Exchange rm) = rm == 14
+op_returns (op.Compute this) = is_plain_move this.opcode && not this.set_flags && (this.rd == 15) && is_link_register this.operand
+op_returns (op.Multiply this) = false
+op_returns (op.MultiplyLong this) = false
+op_returns (op.Word this) = this.load && not this.byte && is_after this.index && this.up && (this.rn == 13) && (this.rd == 15) && is_one_word this.offset
+op_returns (op.Half this) = false
+op_returns (op.Block this) = this.load && not this.before && this.up && this.write_back && (this.rn == 13) && is_listed this.list 15
+op_returns (op.Branch this) = false
+op_returns (op.Exchange this) = this.rm == 14
 
 abbrev pub is_return_form : Insn → Bool
 is_return_form insn = op_returns insn.op

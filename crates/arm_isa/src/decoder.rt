@@ -2,25 +2,33 @@
 //! function of its own.
 
 ghost use Rattle.std.specs.Prelude.{◌≡◌, true, false, IfSome};
-ghost use Rattle.arm_isa.specs.Decoding.{branch_op, compute_op, compute_refused, decoding, exchange_op, exchange_refused, first_fit, half_op, half_refused, index_field, index_refused, is_move, is_test, long_op, long_refused, many_op, many_refused, multiply_op, multiply_refused, operand_field, shift_field, shift_refused, table, unless, word_op, word_refused};
+ghost use Rattle.arm_isa.specs.Decoding.{block_op, block_refused, branch_op, compute_op, compute_refused, condition_field, decoding, exchange_op, exchange_refused, first_fit, half_op, half_refused, index_field, index_refused, long_op, long_refused, multiply_op, multiply_refused, opcode_field, operand_field, shift_field, shift_kind_field, shift_refused, table, unless, word_op, word_refused};
 ghost use Rattle.arm_isa.specs.Fields.{field, flag};
+ghost use Rattle.arm_isa.specs.Guarantees.{IsGuarded};
 ghost use Rattle.arm_isa.specs.Ranges.{IsInsn};
 
+use crate::conditions::Condition;
 use crate::fields::{is_set, register};
-use crate::instruction::{HalfKind, Index, Insn, Offset, Op, Operand, Shift};
+use crate::instruction::{
+    BlockTransfer, Branch, BranchExchange, DataProcessing, HalfKind, HalfTransfer, Index, Insn,
+    LongMultiply, Multiply, Offset, Op, Operand, Shift, ShiftKind, WordTransfer,
+};
+use crate::opcodes::Opcode;
 
 /// The number of pc, which most fields may not name.
 const PC: u8 = 15;
 
 /// Decodes a word. `None` exactly where the table of encodings has no line that fits, or where the first
 /// line that fits refuses the word (`docs/DECODING.md` has the table in words). Each field of a decoded
-/// instruction lies in the range that its type gives; so the condition is at most 14.
+/// instruction lies in the range that its type gives, and the instruction is none that the table refuses: so its
+/// registers differ where the manual leaves the result open if they don't.
 // Inlined into each caller, with what sorts a word, since it is most of what a step of the machine does.
 #[inline(always)]
 #[tactic(auto, using(crate::proofs::TableLemmas::below_fifteen))]
 pub fn decode(word: u32) -> Option<Insn>
     ensures decoded { result ≡ decoding word }
     ensures ranges { IfSome result IsInsn }
+    ensures guarded { IfSome result (λ insn. IsGuarded insn.op) }
 {
     if register(word, 28) == 15 {
         return None;
@@ -30,23 +38,23 @@ pub fn decode(word: u32) -> Option<Insn>
 
 /// What the table says of a word, whose condition isn't 15.
 #[inline(always)]
-#[tactic(auto, using(crate::proofs::TableLemmas::to_compute, crate::proofs::TableLemmas::to_word_constant, crate::proofs::TableLemmas::to_word_register, crate::proofs::TableLemmas::to_media, crate::proofs::TableLemmas::to_many, crate::proofs::TableLemmas::to_branch, crate::proofs::TableLemmas::to_nothing))]
+#[tactic(auto, using(crate::proofs::TableLemmas::to_compute, crate::proofs::TableLemmas::to_word_constant, crate::proofs::TableLemmas::to_word_register, crate::proofs::TableLemmas::to_media, crate::proofs::TableLemmas::to_block, crate::proofs::TableLemmas::to_branch, crate::proofs::TableLemmas::to_nothing))]
 fn by_class(word: u32) -> Option<Insn>
     ensures { result ≡ first_fit table word }
 {
     match (word >> 25) % 8 {
         0 => register_form(word),
-        1 => compute(word),
-        2 => word_transfer(word),
+        1 => decode_compute(word),
+        2 => decode_word(word),
         3 => {
             if is_set(word, 4) {
                 None
             } else {
-                word_transfer(word)
+                decode_word(word)
             }
         }
-        4 => many(word),
-        5 => branch(word),
+        4 => decode_block(word),
+        5 => decode_branch(word),
         _ => None,
     }
 }
@@ -59,11 +67,11 @@ fn register_form(word: u32) -> Option<Insn>
     ensures { result ≡ first_fit table word }
 {
     if (word >> 4) % (1 << 24) == 0x12FFF1 {
-        exchange(word)
+        decode_exchange(word)
     } else if is_set(word, 7) && is_set(word, 4) {
         extension(word)
     } else {
-        compute(word)
+        decode_compute(word)
     }
 }
 
@@ -75,11 +83,11 @@ fn extension(word: u32) -> Option<Insn>
     ensures { result ≡ first_fit table word }
 {
     if (word >> 5) % 4 > 0 {
-        half(word)
+        decode_half(word)
     } else if (word >> 23) % 4 == 1 {
-        long(word)
+        decode_long(word)
     } else if (word >> 22) % 8 == 0 {
-        multiply(word)
+        decode_multiply(word)
     } else {
         None
     }
@@ -88,64 +96,64 @@ fn extension(word: u32) -> Option<Insn>
 /// The instruction under the word's condition.
 #[inline(always)]
 fn under_condition(word: u32, op: Op) -> Option<Insn>
-    ensures { result ≡ Some (record { cond = field word 28 4; op = op }) }
+    ensures { result ≡ Some (record { condition = condition_field word; op = op }) }
 {
-    let cond = register(word, 28);
-    Some(Insn { cond, op })
+    let condition = Condition::from_number(register(word, 28));
+    Some(Insn { condition, op })
 }
 
-fn exchange(word: u32) -> Option<Insn>
+fn decode_exchange(word: u32) -> Option<Insn>
     ensures { result ≡ unless exchange_refused exchange_op word }
 {
     let rm = register(word, 0);
     if rm == PC {
         None
     } else {
-        under_condition(word, Op::Exchange { rm })
+        under_condition(word, Op::Exchange(BranchExchange { rm }))
     }
 }
 
-fn multiply(word: u32) -> Option<Insn>
+fn decode_multiply(word: u32) -> Option<Insn>
     ensures { result ≡ unless multiply_refused multiply_op word }
 {
-    let add = is_set(word, 21);
+    let accumulate = is_set(word, 21);
     let (rd, rn) = (register(word, 16), register(word, 12));
     let (rs, rm) = (register(word, 8), register(word, 0));
-    if rd == PC || rn == PC || rs == PC || rm == PC || !add && rn != 0 {
+    if rd == PC || rn == PC || rs == PC || rm == PC || !accumulate && rn != 0 {
         return None;
     }
-    let op = Op::Multiply {
-        add,
-        flags: is_set(word, 20),
+    let op = Op::Multiply(Multiply {
+        accumulate,
+        set_flags: is_set(word, 20),
         rd,
         rn,
         rs,
         rm,
-    };
+    });
     under_condition(word, op)
 }
 
-fn long(word: u32) -> Option<Insn>
+fn decode_long(word: u32) -> Option<Insn>
     ensures { result ≡ unless long_refused long_op word }
 {
-    let (hi, lo) = (register(word, 16), register(word, 12));
+    let (rd_hi, rd_lo) = (register(word, 16), register(word, 12));
     let (rs, rm) = (register(word, 8), register(word, 0));
-    if hi == PC || lo == PC || rs == PC || rm == PC || hi == lo {
+    if rd_hi == PC || rd_lo == PC || rs == PC || rm == PC || rd_hi == rd_lo {
         return None;
     }
-    let op = Op::Long {
+    let op = Op::MultiplyLong(LongMultiply {
         signed: is_set(word, 22),
-        add: is_set(word, 21),
-        flags: is_set(word, 20),
-        hi,
-        lo,
+        accumulate: is_set(word, 21),
+        set_flags: is_set(word, 20),
+        rd_hi,
+        rd_lo,
         rs,
         rm,
-    };
+    });
     under_condition(word, op)
 }
 
-fn half(word: u32) -> Option<Insn>
+fn decode_half(word: u32) -> Option<Insn>
     ensures { result ≡ unless half_refused half_op word }
 {
     let load = is_set(word, 20);
@@ -173,7 +181,7 @@ fn half(word: u32) -> Option<Insn>
     } else {
         Offset::Value(16 * u32::from(upper) + u32::from(rm))
     };
-    let op = Op::Half {
+    let op = Op::Half(HalfTransfer {
         load,
         kind,
         index: index_of(word),
@@ -181,52 +189,45 @@ fn half(word: u32) -> Option<Insn>
         rn: register(word, 16),
         rd,
         offset,
-    };
+    });
     under_condition(word, op)
 }
 
 /// Data processing. Inlined at both its calls, so that the instruction is made in registers.
 #[inline(always)]
-fn compute(word: u32) -> Option<Insn>
+fn decode_compute(word: u32) -> Option<Insn>
     ensures { result ≡ unless compute_refused compute_op word }
 {
     if is_compute_refused(word) {
         return None;
     }
-    let op = Op::Compute {
-        code: register(word, 21),
-        flags: is_set(word, 20),
+    let op = Op::Compute(DataProcessing {
+        opcode: opcode_of(word),
+        set_flags: is_set(word, 20),
         rn: register(word, 16),
         rd: register(word, 12),
         operand: operand_of(word),
-    };
+    });
     under_condition(word, op)
 }
 
 fn is_compute_refused(word: u32) -> bool
     ensures { result ≡ compute_refused word }
 {
-    let flags = is_set(word, 20);
-    let (code, rn, rd) = (register(word, 21), register(word, 16), register(word, 12));
-    if is_test_code(code) {
-        !flags || rd != 0 || is_shift_refused(word)
+    let set_flags = is_set(word, 20);
+    let (opcode, rn, rd) = (opcode_of(word), register(word, 16), register(word, 12));
+    if opcode.is_test() {
+        !set_flags || rd != 0 || is_shift_refused(word)
     } else {
-        is_move_code(code) && rn != 0 || flags && rd == PC || is_shift_refused(word)
+        opcode.is_move() && rn != 0 || set_flags && rd == PC || is_shift_refused(word)
     }
 }
 
-/// Whether a code is TST, TEQ, CMP or CMN, which write no register.
-pub(crate) fn is_test_code(code: u8) -> bool
-    ensures { result ≡ is_test code }
+#[inline(always)]
+fn opcode_of(word: u32) -> Opcode
+    ensures { result ≡ opcode_field word }
 {
-    matches!(code, 8..=11)
-}
-
-/// Whether a code is MOV or MVN, which read no first operand.
-fn is_move_code(code: u8) -> bool
-    ensures { result ≡ is_move code }
-{
-    matches!(code, 13 | 15)
+    Opcode::from_number(register(word, 21))
 }
 
 /// Whether a shift by a register stands beside r15.
@@ -249,12 +250,12 @@ fn operand_of(word: u32) -> Operand
         let turns = 2 * ((word >> 8) % 16);
         Operand::Value {
             value: (word % 256).rotate_right(turns),
-            turned: turns != 0,
+            rotated: turns != 0,
         }
     } else if is_set(word, 4) {
         Operand::ByRegister {
             rm,
-            kind: ((word >> 5) % 4) as u8,
+            kind: shift_kind_of(word),
             rs: register(word, 8),
         }
     } else {
@@ -265,24 +266,41 @@ fn operand_of(word: u32) -> Operand
     }
 }
 
+#[inline(always)]
+fn shift_kind_of(word: u32) -> ShiftKind
+    ensures { result ≡ shift_kind_field word }
+{
+    match (word >> 5) % 4 {
+        0 => ShiftKind::Lsl,
+        1 => ShiftKind::Lsr,
+        2 => ShiftKind::Asr,
+        _ => ShiftKind::Ror,
+    }
+}
+
 /// A shift by a constant: an amount of 0 stands for 32 places to the right, and at ROR for RRX.
 fn shift_of(word: u32) -> Shift
     ensures { result ≡ shift_field word }
 {
     let amount = ((word >> 7) % 32) as u8;
     let right = if amount == 0 { 32 } else { amount };
-    match (word >> 5) % 4 {
-        0 => Shift::Lsl(amount),
-        1 => Shift::Lsr(right),
-        2 => Shift::Asr(right),
-        _ if amount == 0 => Shift::Rrx,
-        _ => Shift::Ror(amount),
+    match shift_kind_of(word) {
+        ShiftKind::Lsl => Shift::Lsl(amount),
+        ShiftKind::Lsr => Shift::Lsr(right),
+        ShiftKind::Asr => Shift::Asr(right),
+        ShiftKind::Ror => {
+            if amount == 0 {
+                Shift::Rrx
+            } else {
+                Shift::Ror(amount)
+            }
+        }
     }
 }
 
 /// A load or store of a word or byte, inlined likewise.
 #[inline(always)]
-fn word_transfer(word: u32) -> Option<Insn>
+fn decode_word(word: u32) -> Option<Insn>
     ensures { result ≡ unless word_refused word_op word }
 {
     let (load, byte) = (is_set(word, 20), is_set(word, 22));
@@ -299,7 +317,7 @@ fn word_transfer(word: u32) -> Option<Insn>
     } else {
         Offset::Value(word % 4096)
     };
-    let op = Op::Word {
+    let op = Op::Word(WordTransfer {
         load,
         byte,
         index: index_of(word),
@@ -307,7 +325,7 @@ fn word_transfer(word: u32) -> Option<Insn>
         rn: register(word, 16),
         rd,
         offset,
-    };
+    });
     under_condition(word, op)
 }
 
@@ -334,32 +352,32 @@ fn is_index_refused(word: u32, by_register: bool) -> bool
         || (!before || write) && (rn == PC || rn == register(word, 12) || by_register && rn == rm)
 }
 
-fn many(word: u32) -> Option<Insn>
-    ensures { result ≡ unless many_refused many_op word }
+fn decode_block(word: u32) -> Option<Insn>
+    ensures { result ≡ unless block_refused block_op word }
 {
-    let (load, back) = (is_set(word, 20), is_set(word, 21));
+    let (load, write_back) = (is_set(word, 20), is_set(word, 21));
     let rn = register(word, 16);
     let list = (word % (1 << 16)) as u16;
     if is_set(word, 22)
         || list == 0
         || !load && is_set(word, 15)
         || rn == PC
-        || back && is_set(word, u32::from(rn))
+        || write_back && is_set(word, u32::from(rn))
     {
         return None;
     }
-    let op = Op::Many {
+    let op = Op::Block(BlockTransfer {
         load,
         before: is_set(word, 24),
         up: is_set(word, 23),
-        back,
+        write_back,
         rn,
         list,
-    };
+    });
     under_condition(word, op)
 }
 
-fn branch(word: u32) -> Option<Insn>
+fn decode_branch(word: u32) -> Option<Insn>
     ensures { result ≡ unless (λ _. false) branch_op word }
 {
     let offset = (word % (1 << 24)) as i32;
@@ -368,9 +386,9 @@ fn branch(word: u32) -> Option<Insn>
     } else {
         offset - (1 << 24)
     };
-    let op = Op::Branch {
+    let op = Op::Branch(Branch {
         link: is_set(word, 24),
         words,
-    };
+    });
     under_condition(word, op)
 }

@@ -1,32 +1,41 @@
 //! What callers ask of an instruction: its class, what it writes, whether it returns.
 
 ghost use Rattle.std.specs.Prelude.{◌≡◌};
-ghost use Rattle.arm_isa.specs.Classes.{class_by_op};
+ghost use Rattle.arm_isa.specs.Classes.{class_by_op, transfer_class};
 ghost use Rattle.arm_isa.specs.Writes.{is_listed, is_return_form, keeps_address, writes_register};
 
-use crate::decoder::is_test_code;
-use crate::instruction::{Class, Index, Insn, Offset, Op, Operand, Shift};
+use crate::instruction::{
+    BlockTransfer, Class, DataProcessing, Index, Insn, Offset, Op, Operand, Shift, WordTransfer,
+};
+use crate::opcodes::Opcode;
 
 /// The class by which an instruction's time is counted.
 pub fn class_of(insn: &Insn) -> Class
     ensures { result ≡ class_by_op insn.now }
 {
-    match insn.op {
-        Op::Compute {
-            operand: Operand::ByRegister { .. },
-            ..
-        } => Class::Shifted,
-        Op::Compute { .. } => Class::Compute,
-        Op::Multiply { .. } => Class::Multiply,
-        Op::Long { .. } => Class::Long,
-        Op::Word { load: true, .. } | Op::Half { load: true, .. } => Class::Load,
-        Op::Word { .. } | Op::Half { .. } => Class::Store,
-        Op::Many { load: true, .. } => Class::LoadMany,
-        Op::Many { .. } => Class::StoreMany,
-        Op::Branch { link: true, .. } => Class::Call,
-        Op::Branch { .. } => Class::Branch,
-        Op::Exchange { .. } => Class::Exchange,
+    match &insn.op {
+        Op::Compute(this) => match this.operand {
+            Operand::ByRegister { .. } => Class::Shifted,
+            Operand::Value { .. } | Operand::Shifted { .. } => Class::Compute,
+        },
+        Op::Multiply(_) => Class::Multiply,
+        Op::MultiplyLong(_) => Class::Long,
+        Op::Word(this) => transfer_class(this.load),
+        Op::Half(this) => transfer_class(this.load),
+        Op::Block(this) if this.load => Class::LoadMany,
+        Op::Block(_) => Class::StoreMany,
+        Op::Branch(this) if this.link => Class::Call,
+        Op::Branch(_) => Class::Branch,
+        Op::Exchange(_) => Class::Exchange,
     }
+}
+
+/// The class of a load or store of one register.
+#[inline(always)]
+fn transfer_class(load: bool) -> Class
+    ensures { result ≡ transfer_class load }
+{
+    if load { Class::Load } else { Class::Store }
 }
 
 /// Whether the instruction, where it is done, writes the register (0 to 15): as its destination, as a base
@@ -35,33 +44,21 @@ pub fn class_of(insn: &Insn) -> Class
 pub fn may_write(insn: &Insn, register: u8) -> bool
     ensures { result ≡ writes_register insn.now register }
 {
-    match insn.op {
-        Op::Compute { code, rd, .. } => !is_test_code(code) && register == rd,
-        Op::Multiply { rd, .. } => register == rd,
-        Op::Long { hi, lo, .. } => register == hi || register == lo,
-        Op::Word {
-            load,
-            index,
-            rn,
-            rd,
-            ..
+    match &insn.op {
+        Op::Compute(this) => !this.opcode.is_test() && register == this.rd,
+        Op::Multiply(this) => register == this.rd,
+        Op::MultiplyLong(this) => register == this.rd_hi || register == this.rd_lo,
+        Op::Word(this) => {
+            this.load && register == this.rd || is_written_back(this.index) && register == this.rn
         }
-        | Op::Half {
-            load,
-            index,
-            rn,
-            rd,
-            ..
-        } => { load && register == rd || is_written_back(index) && register == rn }
-        Op::Many {
-            load,
-            back,
-            rn,
-            list,
-            ..
-        } => { load && is_in_list(list, register) || back && register == rn }
-        Op::Branch { link, .. } => register == 15 || link && register == 14,
-        Op::Exchange { .. } => register == 15,
+        Op::Half(this) => {
+            this.load && register == this.rd || is_written_back(this.index) && register == this.rn
+        }
+        Op::Block(this) => {
+            this.load && is_in_list(this.list, register) || this.write_back && register == this.rn
+        }
+        Op::Branch(this) => register == 15 || this.link && register == 14,
+        Op::Exchange(_) => register == 15,
     }
 }
 
@@ -71,34 +68,40 @@ pub fn is_return(insn: &Insn) -> bool
     ensures { result ≡ is_return_form insn.now }
 {
     match insn.op {
-        Op::Exchange { rm } => rm == 14,
-        Op::Compute {
-            code: 13,
-            flags: false,
-            rd: 15,
-            operand: Operand::Shifted {
-                rm: 14,
-                shift: Shift::Lsl(0),
+        Op::Exchange(this) => this.rm == 14,
+        Op::Compute(
+            DataProcessing {
+                opcode: Opcode::Mov,
+                set_flags: false,
+                rd: 15,
+                operand: Operand::Shifted {
+                    rm: 14,
+                    shift: Shift::Lsl(0),
+                },
+                ..
             },
-            ..
-        } => true,
-        Op::Many {
-            load: true,
-            before: false,
-            up: true,
-            back: true,
-            rn: 13,
-            list,
-        } => { is_in_list(list, 15) }
-        Op::Word {
-            load: true,
-            byte: false,
-            index: Index::After,
-            up: true,
-            rn: 13,
-            rd: 15,
-            offset: Offset::Value(4),
-        } => true,
+        ) => true,
+        Op::Block(
+            BlockTransfer {
+                load: true,
+                before: false,
+                up: true,
+                write_back: true,
+                rn: 13,
+                list,
+            },
+        ) => is_in_list(list, 15),
+        Op::Word(
+            WordTransfer {
+                load: true,
+                byte: false,
+                index: Index::After,
+                up: true,
+                rn: 13,
+                rd: 15,
+                offset: Offset::Value(4),
+            },
+        ) => true,
         _ => false,
     }
 }

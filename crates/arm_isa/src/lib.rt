@@ -5,7 +5,7 @@
 //! let give_back = decode(0xE12F_FF1E); // BX r14
 //! ```
 //!
-//! The first gives an [`Insn`] with the condition 14 ("always") and an [`Op::Compute`], the second one
+//! The first gives an [`Insn`] with the condition [`Condition::Al`] and an [`Op::Compute`], the second one
 //! with [`Op::Exchange`], of which [`is_return`] says that it goes back to the caller. A word that the
 //! decoder doesn't know gives `None`: coprocessor instructions, software interrupts, the words that the
 //! architecture leaves undefined or unpredictable, and some that this project refuses of its own
@@ -20,11 +20,13 @@ mod decoder;
 mod effects;
 mod fields;
 mod instruction;
+mod opcodes;
 
-pub use conditions::{Flags, passes};
+pub use conditions::{Condition, Flags};
 pub use decoder::decode;
 pub use effects::{class_of, is_return, may_write};
-pub use instruction::{Class, HalfKind, Index, Insn, Offset, Op, Operand, Shift};
-
-#[cfg(test)]
-mod tests;
+pub use instruction::{
+    BlockTransfer, Branch, BranchExchange, Class, DataProcessing, HalfKind, HalfTransfer, Index,
+    Insn, LongMultiply, Multiply, Offset, Op, Operand, Shift, ShiftKind, WordTransfer,
+};
+pub use opcodes::Opcode;
