@@ -32,7 +32,7 @@ jumped cpu value = if value % 4 == 0 then Ok (record cpu { pc = value }) else Er
 abbrev pub written : Cpu → ℕ → ℕ → Result Cpu Stop
 written cpu r value = if r == 15 then jumped cpu value else Ok (advanced (with_register cpu r value))
 
--- what comes behind a part that may stop
+-- what comes after a part that may stop
 abbrev pub and_then : {A B : Type 0} → (A → Result B Stop) → Result A Stop → Result B Stop
 and_then later (Ok a) = later a
 and_then later (Err stop) = Err stop

@@ -3,6 +3,8 @@ use Rattle.std.specs.Prelude.{ℕ, ◌+◌, ◌-◌, ◌*◌, ◌/◌, ◌%◌, 
 use Rattle.std.specs.Int.{rotate_right, w32}
 use Rattle.arm_isa.specs.declared.instruction.Operand.{Operand}
 use Rattle.arm_isa.specs.declared.instruction.Operand.TheVariants as operand
+use Rattle.arm_isa.specs.declared.instruction.ShiftKind.{ShiftKind}
+use Rattle.arm_isa.specs.declared.instruction.ShiftKind.TheVariants as kind
 use Rattle.arm_isa.specs.declared.instruction.Shift.{Shift}
 use Rattle.arm_isa.specs.declared.instruction.Shift.TheVariants as shift
 use Rattle.arm_cpu.specs.declared.cpu.Cpu.{Cpu}
@@ -42,30 +44,31 @@ shift_carry carry w (shift.Asr amount) = bit w (amount - 1)
 shift_carry carry w (shift.Ror amount) = sign (rotate_right w32 w amount)
 shift_carry carry w shift.Rrx = w % 2 == 1
 
--- By the low byte of a register, 0 to 255: LSL, LSR, ASR, and else ROR. From 32 on all bits leave, or the sign fills.
-abbrev pub value_by : ℕ → ℕ → ℕ → ℕ
-value_by kind w amount =
-    if kind == 0 then (if nat_lt amount 32 then w * 2 ^ amount % 2 ^ 32 else 0)
-    else if kind == 1 then (if nat_lt amount 32 then w / 2 ^ amount else 0)
-    else if kind == 2 then signed_to_the_right w (min amount 32)
-    else rotate_right w32 w amount
+-- By the low byte of a register, 0 to 255. From 32 on all bits leave, or the sign fills.
+abbrev pub value_by : ShiftKind → ℕ → ℕ → ℕ
+value_by kind.Lsl w amount = if nat_lt amount 32 then w * 2 ^ amount % 2 ^ 32 else 0
+value_by kind.Lsr w amount = if nat_lt amount 32 then w / 2 ^ amount else 0
+value_by kind.Asr w amount = signed_to_the_right w (min amount 32)
+value_by kind.Ror w amount = rotate_right w32 w amount
 
--- by 0 nothing leaves; by more than 32 zeros leave, or the sign
-abbrev pub carry_by : Bool → ℕ → ℕ → ℕ → Bool
-carry_by carry kind w amount =
-    if amount == 0 then carry
-    else if kind == 0 then nat_le amount 32 && bit w (32 - amount)
-    else if kind == 1 then nat_le amount 32 && bit w (amount - 1)
-    else if kind == 2 then bit w (min amount 32 - 1)
-    else sign (rotate_right w32 w amount)
+-- the bit that leaves last; from 33 on it is a zero, or the sign
+abbrev pub carry_leaving : ShiftKind → ℕ → ℕ → Bool
+carry_leaving kind.Lsl w amount = nat_le amount 32 && bit w (32 - amount)
+carry_leaving kind.Lsr w amount = nat_le amount 32 && bit w (amount - 1)
+carry_leaving kind.Asr w amount = bit w (min amount 32 - 1)
+carry_leaving kind.Ror w amount = sign (rotate_right w32 w amount)
+
+-- by 0 nothing leaves
+abbrev pub carry_by : Bool → ShiftKind → ℕ → ℕ → Bool
+carry_by carry by w amount = if amount == 0 then carry else carry_leaving by w amount
 
 abbrev pub operand_value : Cpu → Operand → ℕ
-operand_value cpu (operand.Value value turned) = value
+operand_value cpu (operand.Value value rotated) = value
 operand_value cpu (operand.Shifted rm by) = shift_value cpu.flags.c (read cpu rm) by
-operand_value cpu (operand.ByRegister rm kind rs) = value_by kind (read cpu rm) (read cpu rs % 256)
+operand_value cpu (operand.ByRegister rm by rs) = value_by by (read cpu rm) (read cpu rs % 256)
 
 -- the carry of a constant is the carry flag or, where its byte is rotated, bit 31
 abbrev pub operand_carry : Cpu → Operand → Bool
-operand_carry cpu (operand.Value value turned) = if turned then sign value else cpu.flags.c
+operand_carry cpu (operand.Value value rotated) = if rotated then sign value else cpu.flags.c
 operand_carry cpu (operand.Shifted rm by) = shift_carry cpu.flags.c (read cpu rm) by
-operand_carry cpu (operand.ByRegister rm kind rs) = carry_by cpu.flags.c kind (read cpu rm) (read cpu rs % 256)
+operand_carry cpu (operand.ByRegister rm by rs) = carry_by cpu.flags.c by (read cpu rm) (read cpu rs % 256)

@@ -10,7 +10,7 @@ use arm_isa::Flags;
 pub const PC: u8 = 15;
 
 /// The registers of the processor.
-#[derive(Clone, Copy, Debug, PartialEq, Eq)]
+#[derive(Clone, Copy, Debug)]
 pub struct Cpu {
     /// Registers 0 to 14.
     pub registers: [u32; 15],
@@ -42,7 +42,7 @@ impl Cpu {
         self.pc.wrapping_add(4)
     }
 
-    /// Goes on behind the instruction.
+    /// Goes on after the instruction.
     #[inline(always)]
     pub fn advance(&mut self)
         ensures { self.new ≡ advanced self.old }
@@ -73,7 +73,7 @@ impl Cpu {
         }
     }
 
-    /// Gives a register a value, and goes on behind the instruction; register 15 is pc.
+    /// Gives a register a value, and goes on after the instruction; register 15 is pc.
     #[inline(always)]
     pub fn write(&mut self, register: u8, value: u32) -> Result<(), Stop>
         requires { register < 16 }

@@ -3,9 +3,16 @@
 //!
 //! ```rust
 //! use arm_cpu::{Cpu, compute};
+//! use arm_isa::{DataProcessing, Opcode, Operand};
 //!
-//! // ADD r0,r0,#1
-//! compute(&mut cpu, 4, false, 0, 0, Operand::Value { value: 1, turned: false })?;
+//! let add_one = DataProcessing { // ADD r0,r0,#1
+//!     opcode: Opcode::Add,
+//!     set_flags: false,
+//!     rn: 0,
+//!     rd: 0,
+//!     operand: Operand::Value { value: 1, rotated: false },
+//! };
+//! compute(&mut cpu, add_one)?;
 //! ```
 //!
 //! What each instruction does is a definition in `specs/`, after the ARM Architecture Reference Manual.

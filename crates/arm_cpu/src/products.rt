@@ -1,58 +1,51 @@
 //! Multiplications.
 
 ghost use Rattle.std.specs.Prelude.{◌≡◌, ◌<◌};
+ghost use Rattle.arm_isa.specs.Ranges.{IsLongMultiply, IsMultiply};
 ghost use Rattle.arm_cpu.specs.Products.{long_product, multiplies, multiplies_long, pair, product, product_flags, signed_product};
 
 use crate::cpu::Cpu;
 use crate::shifts::sign;
-use arm_isa::Flags;
+use arm_isa::{Flags, LongMultiply, Multiply};
 
-/// Does MUL, or MLA with `add`.
-pub fn multiply(cpu: &mut Cpu, add: bool, sets: bool, rd: u8, rn: u8, rs: u8, rm: u8)
-    requires rd { rd < 15 }
-    requires rn { rn < 15 }
-    requires rs { rs < 15 }
-    requires rm { rm < 15 }
-    ensures { cpu.new ≡ multiplies cpu.old add sets rd rn rs rm }
+/// Does MUL or MLA.
+pub fn multiply(cpu: &mut Cpu, this: Multiply)
+    requires { IsMultiply this }
+    ensures { cpu.new ≡ multiplies cpu.old this }
 {
-    let addend = if add { cpu.read(rn) } else { 0 };
-    let value = product(cpu.read(rm), cpu.read(rs), addend);
-    cpu.flags = product_flags(sets, cpu.flags, sign(value), value == 0);
-    cpu.set(rd, value);
+    let addend = if this.accumulate {
+        cpu.read(this.rn)
+    } else {
+        0
+    };
+    let value = product(cpu.read(this.rm), cpu.read(this.rs), addend);
+    cpu.flags = product_flags(this.set_flags, cpu.flags, sign(value), value == 0);
+    cpu.set(this.rd, value);
     cpu.advance();
 }
 
-/// Does UMULL or SMULL, or UMLAL or SMLAL with `add`.
-#[expect(clippy::too_many_arguments)]
-pub fn multiply_long(
-    cpu: &mut Cpu,
-    signed: bool,
-    add: bool,
-    sets: bool,
-    hi: u8,
-    lo: u8,
-    rs: u8,
-    rm: u8,
-)
-    requires hi { hi < 15 }
-    requires lo { lo < 15 }
-    requires rs { rs < 15 }
-    requires rm { rm < 15 }
-    ensures { cpu.new ≡ multiplies_long cpu.old signed add sets hi lo rs rm }
+/// Does UMULL, UMLAL, SMULL or SMLAL.
+pub fn multiply_long(cpu: &mut Cpu, this: LongMultiply)
+    requires { IsLongMultiply this }
+    ensures { cpu.new ≡ multiplies_long cpu.old this }
 {
-    let addend = if add { pair(cpu, hi, lo) } else { 0 };
-    let value = long_product(signed, cpu.read(rm), cpu.read(rs), addend);
-    cpu.flags = product_flags(sets, cpu.flags, value >= 1 << 63, value == 0);
-    cpu.set(hi, (value / (1 << 32)) as u32);
-    cpu.set(lo, (value % (1 << 32)) as u32);
+    let addend = if this.accumulate {
+        pair(cpu, this.rd_hi, this.rd_lo)
+    } else {
+        0
+    };
+    let value = long_product(this.signed, cpu.read(this.rm), cpu.read(this.rs), addend);
+    cpu.flags = product_flags(this.set_flags, cpu.flags, value >= 1 << 63, value == 0);
+    cpu.set(this.rd_hi, (value / (1 << 32)) as u32);
+    cpu.set(this.rd_lo, (value % (1 << 32)) as u32);
     cpu.advance();
 }
 
-/// With `sets` the flags tell of a product; C and V stay.
-fn product_flags(sets: bool, flags: Flags, negative: bool, zero: bool) -> Flags
-    ensures { result ≡ product_flags sets flags negative zero }
+/// The flags after a product: with S, N and Z say what it is; C and V stay.
+fn product_flags(set_flags: bool, flags: Flags, negative: bool, zero: bool) -> Flags
+    ensures { result ≡ product_flags set_flags flags negative zero }
 {
-    if sets {
+    if set_flags {
         Flags {
             n: negative,
             z: zero,

@@ -5,7 +5,7 @@ ghost use Rattle.arm_isa.specs.Ranges.{IsOperand, IsShift};
 ghost use Rattle.arm_cpu.specs.Shifts.{bit, carry_by, inverted, operand_carry, operand_value, shift_carry, shift_value, sign, signed_to_the_right, to_the_right, value_by};
 
 use crate::cpu::Cpu;
-use arm_isa::{Operand, Shift};
+use arm_isa::{Operand, Shift, ShiftKind};
 
 /// The value of the second operand.
 #[inline]
@@ -27,7 +27,7 @@ pub fn operand_carry(cpu: &Cpu, operand: Operand) -> bool
     ensures { result ≡ operand_carry cpu.now operand }
 {
     match operand {
-        Operand::Value { value, turned } => { if turned { sign(value) } else { cpu.flags.c } }
+        Operand::Value { value, rotated } => { if rotated { sign(value) } else { cpu.flags.c } }
         Operand::Shifted { rm, shift } => shift_carry(cpu.flags.c, cpu.read(rm), shift),
         Operand::ByRegister { rm, kind, rs } => {
             carry_by(cpu.flags.c, kind, cpu.read(rm), cpu.read(rs) % 256)
@@ -71,29 +71,29 @@ fn shift_carry(carry: bool, word: u32, shift: Shift) -> bool
 }
 
 /// A word shifted by the low byte of a register.
-fn value_by(kind: u8, word: u32, amount: u32) -> u32
+fn value_by(kind: ShiftKind, word: u32, amount: u32) -> u32
     ensures { result ≡ value_by kind word amount }
 {
     match kind {
-        0 => { if amount < 32 { word << amount } else { 0 } }
-        1 => { if amount < 32 { word >> amount } else { 0 } }
-        2 => signed_to_the_right(word, amount.min(32)),
-        _ => word.rotate_right(amount),
+        ShiftKind::Lsl => { if amount < 32 { word << amount } else { 0 } }
+        ShiftKind::Lsr => { if amount < 32 { word >> amount } else { 0 } }
+        ShiftKind::Asr => signed_to_the_right(word, amount.min(32)),
+        ShiftKind::Ror => word.rotate_right(amount),
     }
 }
 
 /// The bit that leaves last in a shift by the low byte of a register.
-fn carry_by(carry: bool, kind: u8, word: u32, amount: u32) -> bool
+fn carry_by(carry: bool, kind: ShiftKind, word: u32, amount: u32) -> bool
     ensures { result ≡ carry_by carry kind word amount }
 {
     if amount == 0 {
         return carry;
     }
     match kind {
-        0 => amount <= 32 && bit(word, 32 - amount),
-        1 => amount <= 32 && bit(word, amount - 1),
-        2 => bit(word, amount.min(32) - 1),
-        _ => sign(word.rotate_right(amount)),
+        ShiftKind::Lsl => amount <= 32 && bit(word, 32 - amount),
+        ShiftKind::Lsr => amount <= 32 && bit(word, amount - 1),
+        ShiftKind::Asr => bit(word, amount.min(32) - 1),
+        ShiftKind::Ror => sign(word.rotate_right(amount)),
     }
 }
 
@@ -132,7 +132,7 @@ pub fn sign(word: u32) -> bool
     word >= 0x8000_0000
 }
 
-/// All bits turned.
+/// All bits inverted.
 #[inline(always)]
 pub fn inverted(word: u32) -> u32
     ensures { result ≡ inverted word }

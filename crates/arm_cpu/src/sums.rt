@@ -1,17 +1,17 @@
 //! Data processing.
 
-ghost use Rattle.std.specs.Prelude.{◌≡◌, ◌<◌};
-ghost use Rattle.arm_isa.specs.Ranges.{IsOperand};
+ghost use Rattle.std.specs.Prelude.{◌≡◌};
+ghost use Rattle.arm_isa.specs.Ranges.{IsDataProcessing};
 ghost use Rattle.arm_cpu.specs.Registers.{Does};
 ghost use Rattle.arm_cpu.specs.Sums.{added, computed, computes, flags_after, flags_of, logical, one_if, subtracted};
 
 use crate::cpu::{Cpu, PC};
 use crate::shifts::{inverted, operand_carry, operand_value, sign};
 use crate::stops::Stop;
-use arm_isa::{Flags, Operand};
+use arm_isa::{DataProcessing, Flags, Opcode};
 
 /// What the arithmetic of an instruction gives.
-#[derive(Clone, Copy, Debug, PartialEq, Eq)]
+#[derive(Clone, Copy, Debug)]
 pub struct Sum {
     /// The result, modulo 2^32.
     pub value: u32,
@@ -22,69 +22,64 @@ pub struct Sum {
 }
 
 /// Does a data-processing instruction.
+///
+/// # Errors
+///
+/// `Leaves`, exactly where it writes register 15 with a value that is no multiple of 4; then the registers stay.
 #[inline]
-pub fn compute(
-    cpu: &mut Cpu,
-    code: u8,
-    sets: bool,
-    rn: u8,
-    rd: u8,
-    operand: Operand,
-) -> Result<(), Stop>
-    requires first { rn < 16 }
-    requires destination { rd < 16 }
-    requires operand { IsOperand operand }
-    ensures { Does (computes cpu.old code sets rn rd operand) cpu.old cpu.new result }
+pub fn compute(cpu: &mut Cpu, this: DataProcessing) -> Result<(), Stop>
+    requires { IsDataProcessing this }
+    ensures { Does (computes cpu.old this) cpu.old cpu.new result }
 {
-    let carry = operand_carry(cpu, operand);
-    let value = operand_value(cpu, operand);
-    let sum = computed(code, cpu.flags, carry, cpu.read(rn), value);
-    let flags = flags_after(sets, cpu.flags, sum);
-    if 8 <= code && code <= 11 {
+    let carry = operand_carry(cpu, this.operand);
+    let value = operand_value(cpu, this.operand);
+    let sum = computed(this.opcode, cpu.flags, carry, cpu.read(this.rn), value);
+    let flags = flags_after(this.set_flags, cpu.flags, sum);
+    if this.opcode.is_test() {
         cpu.flags = flags;
         cpu.advance();
         return Ok(());
     }
-    if rd == PC {
+    if this.rd == PC {
         cpu.jump(sum.value)?;
     } else {
-        cpu.set(rd, sum.value);
+        cpu.set(this.rd, sum.value);
         cpu.advance();
     }
     cpu.flags = flags;
     Ok(())
 }
 
-/// What an operation gives for the operands `a` and `b`, by its code.
+/// What an operation gives for the operands `a` and `b`.
 #[inline]
-fn computed(code: u8, flags: Flags, shifter_carry: bool, a: u32, b: u32) -> Sum
-    ensures { result ≡ computed code flags shifter_carry a b }
+fn computed(opcode: Opcode, flags: Flags, shifter_carry: bool, a: u32, b: u32) -> Sum
+    ensures { result ≡ computed opcode flags shifter_carry a b }
 {
-    match code {
-        0 | 8 => logical(flags, shifter_carry, a & b),
-        1 | 9 => logical(flags, shifter_carry, a ^ b),
-        2 | 10 => subtracted(a, b, true),
-        3 => subtracted(b, a, true),
-        4 | 11 => added(a, b, false),
-        5 => added(a, b, flags.c),
-        6 => subtracted(a, b, flags.c),
-        7 => subtracted(b, a, flags.c),
-        12 => logical(flags, shifter_carry, a | b),
-        13 => logical(flags, shifter_carry, b),
-        14 => logical(flags, shifter_carry, a & inverted(b)),
-        _ => logical(flags, shifter_carry, inverted(b)),
+    match opcode {
+        Opcode::And | Opcode::Tst => logical(flags, shifter_carry, a & b),
+        Opcode::Eor | Opcode::Teq => logical(flags, shifter_carry, a ^ b),
+        Opcode::Sub | Opcode::Cmp => subtracted(a, b, true),
+        Opcode::Rsb => subtracted(b, a, true),
+        Opcode::Add | Opcode::Cmn => added(a, b, false),
+        Opcode::Adc => added(a, b, flags.c),
+        Opcode::Sbc => subtracted(a, b, flags.c),
+        Opcode::Rsc => subtracted(b, a, flags.c),
+        Opcode::Orr => logical(flags, shifter_carry, a | b),
+        Opcode::Mov => logical(flags, shifter_carry, b),
+        Opcode::Bic => logical(flags, shifter_carry, a & inverted(b)),
+        Opcode::Mvn => logical(flags, shifter_carry, inverted(b)),
     }
 }
 
-/// The flags after an instruction: with `sets` they tell of its result.
+/// The flags after an instruction: with S they say what its result is.
 #[inline]
-fn flags_after(sets: bool, flags: Flags, sum: Sum) -> Flags
-    ensures { result ≡ flags_after sets flags sum }
+fn flags_after(set_flags: bool, flags: Flags, sum: Sum) -> Flags
+    ensures { result ≡ flags_after set_flags flags sum }
 {
-    if sets { flags_of(sum) } else { flags }
+    if set_flags { flags_of(sum) } else { flags }
 }
 
-/// The flags that tell of a result.
+/// The flags that a result sets.
 #[inline]
 fn flags_of(sum: Sum) -> Flags
     ensures { result ≡ flags_of sum }
