@@ -7,6 +7,7 @@ use Rattle.elf32_image.specs.Bytes.{is_code}
 use Rattle.arm_isa.specs.declared.instruction.Insn.{Insn}
 use Rattle.arm_isa.specs.declared.instruction.Op.{Op}
 use Rattle.arm_isa.specs.declared.instruction.Op.TheVariants as op
+use Rattle.arm_isa.specs.Conditions.{is_always}
 use Rattle.arm_isa.specs.Writes.{writes_register, is_return_form}
 use Rattle.control_flow.specs.Instructions.{instruction_at}
 
@@ -15,7 +16,7 @@ pub record Point : Type 0 where
   pub returns : List ℕ
   pub address : ℕ
 
--- a point, or the place behind the function's return
+-- a point, or the place after the function's return
 pub data Place : Type 0 where
   At : (point : Point) → Place
   Exit : Place
@@ -48,14 +49,8 @@ pub record Jump : Type 0 where
   pub words : ℤ
 
 abbrev pub jump_of : Op → Option Jump
-jump_of (op.Compute code flags rn rd operand) = None
-jump_of (op.Multiply add flags rd rn rs rm) = None
-jump_of (op.Long signed add flags hi lo rs rm) = None
-jump_of (op.Word load byte index up rn rd offset) = None
-jump_of (op.Half load kind index up rn rd offset) = None
-jump_of (op.Many load before up back rn list) = None
-jump_of (op.Branch link words) = Some (record { link = link; words = words })
-jump_of (op.Exchange rm) = None
+jump_of (op.Branch this) = Some (record { link = this.link; words = this.words })
+jump_of _ = None
 
 abbrev pub call_target : ℕ → Option Jump → Option ℕ
 call_target a None = None
@@ -94,7 +89,7 @@ abbrev pub other_places : Point → Insn → List Place
 other_places p insn = if writes_register insn 15 then [] else At (record p { address = next_address p.address }) ∷ []
 
 abbrev pub with_next : Point → Insn → List Place → List Place
-with_next p insn places = places ++ (if insn.cond == 14 then [] else At (record p { address = next_address p.address }) ∷ [])
+with_next p insn places = places ++ (if is_always insn.condition then [] else At (record p { address = next_address p.address }) ∷ [])
 
 abbrev pub done_places : ImageValue → ℕ → Point → Insn → Option Jump → List Place
 done_places image entry p insn (Some jump) = if is_faulty_jump image entry p jump then [] else with_next p insn (jump_place p jump ∷ [])

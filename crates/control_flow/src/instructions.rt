@@ -1,6 +1,7 @@
 //! The instruction at an address of an image.
 
 ghost use Rattle.std.specs.Prelude.{◌≡◌, IfOk};
+ghost use Rattle.arm_isa.specs.Guarantees.{IsGuarded};
 ghost use Rattle.arm_isa.specs.Ranges.{IsInsn};
 ghost use Rattle.control_flow.specs.Instructions.{fetched};
 
@@ -16,7 +17,7 @@ pub enum FetchFault {
     BadWord,
 }
 
-/// The instruction at an address. It takes no memory.
+/// The instruction at an address, within its ranges and none that decoding refuses. It takes no memory.
 ///
 /// # Errors
 ///
@@ -26,6 +27,7 @@ pub enum FetchFault {
 pub fn fetch(image: &Image, address: u32) -> Result<Insn, FetchFault>
     ensures exact { result ≡ fetched image.now address }
     ensures ranges { IfOk result IsInsn }
+    ensures guarded { IfOk result (λ insn. IsGuarded insn.op) }
 {
     match image.code_at(address) {
         Some(word) => match decode(word) {

@@ -3,7 +3,5 @@
 #![tactic(auto)]
 
 mod instructions;
-#[cfg(test)]
-mod tests;
 
 pub use instructions::{FetchFault, fetch};
