@@ -1,5 +1,5 @@
 -- Cost tables and cache geometries, and what an instruction costs by them.
-use Rattle.std.specs.Prelude.{◌≡◌, ℕ, ◌+◌, ◌*◌, ◌^◌, ◌≤◌, ◌==◌, max, Bool, true, false, if◌then◌else◌, replicate, slice_index, count_ones}
+use Rattle.std.specs.Prelude.{◌≡◌, ℕ, ◌+◌, ◌*◌, ◌^◌, ◌≤◌, max, Bool, true, false, if◌then◌else◌, replicate, slice_index, count_ones}
 use Rattle.std.specs.List.{AllByRecursion}
 use Rattle.arm_isa.specs.declared.instruction.Insn.{Insn}
 use Rattle.arm_isa.specs.declared.instruction.Op.{Op}
@@ -7,6 +7,7 @@ use Rattle.arm_isa.specs.declared.instruction.Op.TheVariants as op
 use Rattle.arm_isa.specs.declared.instruction.Class.{Class}
 use Rattle.arm_isa.specs.declared.instruction.Class.TheVariants as class
 use Rattle.arm_isa.specs.Classes.{class_by_op}
+use Rattle.arm_isa.specs.Conditions.{is_always}
 use Rattle.fetch_timing.specs.declared.timing.Timing.{Timing}
 
 -- 16 sets of 2 lines of 16 bytes, 10 cycles for a miss, 1 cycle for all else
@@ -37,14 +38,8 @@ class_place class.Exchange = 10
 
 -- how many registers an instruction loads or stores on top of what its class counts
 abbrev pub registers_moved : Op → ℕ
-registers_moved (op.Compute code flags rn rd operand) = 0
-registers_moved (op.Multiply add flags rd rn rs rm) = 0
-registers_moved (op.Long signed add flags hi lo rs rm) = 0
-registers_moved (op.Word load byte index up rn rd offset) = 0
-registers_moved (op.Half load kind index up rn rd offset) = 0
-registers_moved (op.Many load before up back rn list) = count_ones list
-registers_moved (op.Branch link words) = 0
-registers_moved (op.Exchange rm) = 0
+registers_moved (op.Block this) = count_ones this.list
+registers_moved _ = 0
 
 -- the cycles of an instruction without its fetch
 abbrev pub cost_of : Timing → Insn → Bool → ℕ
@@ -53,7 +48,7 @@ cost_of t insn false = t.skipped
 
 -- what an instruction costs at most, done or skipped; one that is always done is never skipped
 abbrev pub point_cost : Timing → Insn → ℕ
-point_cost t insn = if insn.cond == 14 then cost_of t insn true else max (cost_of t insn true) (cost_of t insn false)
+point_cost t insn = if is_always insn.condition then cost_of t insn true else max (cost_of t insn true) (cost_of t insn false)
 
 -- n is a power of two, and its exponent lies between these
 abbrev pub IsPowerOfTwo : ℕ → ℕ → ℕ → Type 0

@@ -3,9 +3,6 @@ ghost use Rattle.fetch_timing.specs.Timings.{unit_timing, class_place, registers
 
 use arm_isa::{Class, Insn, Op, class_of};
 
-/// The condition that always passes.
-const ALWAYS: u8 = 14;
-
 /// A cost table and a cache geometry. Costs are in cycles, from 0 to 1,000,000.
 #[derive(Clone, Copy, Debug, PartialEq, Eq)]
 pub struct Timing {
@@ -68,7 +65,7 @@ impl Timing {
         ensures limit { result ≤ 17000000 }
     {
         let done = self.cost(insn, true);
-        if insn.cond == ALWAYS {
+        if insn.condition.is_always() {
             done
         } else {
             done.max(self.cost(insn, false))
@@ -122,7 +119,7 @@ fn moved(op: Op) -> u32
     ensures few { result ≤ 16 }
 {
     match op {
-        Op::Many { list, .. } => list.count_ones(),
+        Op::Block(this) => this.list.count_ones(),
         _ => 0,
     }
 }
