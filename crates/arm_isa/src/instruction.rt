@@ -227,7 +227,7 @@ pub enum HalfKind {
 }
 
 /// The classes by which time is counted.
-#[derive(Clone, Copy, Debug)]
+#[derive(Clone, Copy, Debug, PartialEq, Eq)]
 pub enum Class {
     /// Data processing, its operand a constant or a register shifted by a constant amount.
     Compute,

@@ -2,6 +2,7 @@
 -- goes with the lowest address.
 use Rattle.std.specs.Prelude.{◌≡◌, ℕ, zero, suc, ◌+◌, ◌-◌, ◌*◌, ◌%◌, ◌^◌, ◌==◌, ◌&&◌, not, Bool, if◌then◌else◌, count_ones, Option, Some, None, Result, Ok, Err, List, [], ◌∷◌}
 use Rattle.elf32_image.specs.Parts.{ImageValue}
+use Rattle.arm_isa.specs.declared.instruction.BlockTransfer.{BlockTransfer}
 use Rattle.arm_isa.specs.Writes.{is_listed}
 use Rattle.arm_cpu.specs.declared.cpu.Cpu.{Cpu}
 use Rattle.arm_machine.specs.declared.access.Size.TheVariants as size
@@ -20,20 +21,22 @@ listed_from list r (suc n) = if is_listed list r then r ∷ listed_from list (r 
 unfoldable pub registers_of : ℕ → List ℕ
 registers_of list = listed_from list 0 16
 
--- the lowest address: upward from the base on or from the word behind it, downward so that the block ends there
-abbrev pub lowest : Cpu → Bool → Bool → ℕ → ℕ → ℕ
-lowest cpu before up rn list =
-    if up
-    then (read cpu rn + (if before then 4 else 0)) % 2 ^ 32
-    else (read cpu rn + 2 ^ 32 - 4 * count_ones list + (if before then 0 else 4)) % 2 ^ 32
+-- the lowest address: upward from the base on or from the word after it, downward so that the block ends there
+abbrev pub lowest : Cpu → BlockTransfer → ℕ
+lowest cpu this =
+    if this.up
+    then (read cpu this.rn + (if this.before then 4 else 0)) % 2 ^ 32
+    else (read cpu this.rn + 2 ^ 32 - 4 * count_ones this.list + (if this.before then 0 else 4)) % 2 ^ 32
 
--- the base behind the block
-abbrev pub block_base : Cpu → Bool → ℕ → ℕ → ℕ
-block_base cpu up rn list =
-    if up then (read cpu rn + 4 * count_ones list) % 2 ^ 32 else (read cpu rn + 2 ^ 32 - 4 * count_ones list) % 2 ^ 32
+-- the base after the block
+abbrev pub block_base : Cpu → BlockTransfer → ℕ
+block_base cpu this =
+    if this.up
+    then (read cpu this.rn + 4 * count_ones this.list) % 2 ^ 32
+    else (read cpu this.rn + 2 ^ 32 - 4 * count_ones this.list) % 2 ^ 32
 
-abbrev pub rebased_block : Cpu → Bool → Bool → ℕ → ℕ → Cpu
-rebased_block cpu up back rn list = if back then with_register cpu rn (block_base cpu up rn list) else cpu
+abbrev pub rebased_block : Cpu → BlockTransfer → Cpu
+rebased_block cpu this = if this.write_back then with_register cpu this.rn (block_base cpu this) else cpu
 
 abbrev pub next_word : ℕ → ℕ
 next_word a = (a + 4) % 2 ^ 32
@@ -51,9 +54,9 @@ load_block memory a (r ∷ rs) cpu = and_then (λ value. load_block memory (next
 abbrev pub landed : ℕ → Cpu → Result Cpu Stop
 landed list cpu = if is_listed list 15 && not (cpu.pc % 4 == 0) then Err stop.Leaves else Ok cpu
 
-abbrev pub loads_many : Cpu → Bytes → Bool → Bool → Bool → ℕ → ℕ → Result Cpu Stop
-loads_many cpu memory before up back rn list =
-    and_then (landed list) (load_block memory (lowest cpu before up rn list) (registers_of list) (advanced (rebased_block cpu up back rn list)))
+abbrev pub loads_many : Cpu → Bytes → BlockTransfer → Result Cpu Stop
+loads_many cpu memory this =
+    and_then (landed this.list) (load_block memory (lowest cpu this) (registers_of this.list) (advanced (rebased_block cpu this)))
 
 abbrev pub first_of : Option Stop → Option Stop → Option Stop
 first_of None later = later
@@ -76,15 +79,14 @@ stored_block cpu s base a saves (r ∷ rs) =
     stored_block cpu (stored s base size.Word a (read cpu r) (saves && is_saved r)) base (next_word a) saves rs
 
 -- STMDB r13!
-abbrev pub is_push_block : Bool → Bool → Bool → ℕ → Bool
-is_push_block before up back rn = before && not up && back && (rn == 13)
+abbrev pub is_push_block : BlockTransfer → Bool
+is_push_block this = this.before && not this.up && this.write_back && (this.rn == 13)
 
-abbrev pub stores_many : ImageValue → State → Bool → Bool → Bool → ℕ → ℕ → Result State Stop
-stores_many image s before up back rn list =
-    let a = lowest s.cpu before up rn list in
-    unless_stopped (block_stop image s.memory s.kept rn a (registers_of list))
-    (record (stored_block s.cpu s rn a (is_push_block before up back rn) (registers_of list)) { cpu = advanced (rebased_block s.cpu up back rn list) })
+abbrev pub stores_many : ImageValue → State → BlockTransfer → Result State Stop
+stores_many image s this =
+    let a = lowest s.cpu this in
+    unless_stopped (block_stop image s.memory s.kept this.rn a (registers_of this.list))
+    (record (stored_block s.cpu s this.rn a (is_push_block this) (registers_of this.list)) { cpu = advanced (rebased_block s.cpu this) })
 
-abbrev pub transfers_many : ImageValue → State → Bool → Bool → Bool → Bool → ℕ → ℕ → Result State Stop
-transfers_many image s load before up back rn list =
-    if load then with_cpu s (loads_many s.cpu s.memory before up back rn list) else stores_many image s before up back rn list
+abbrev pub transfers_many : ImageValue → State → BlockTransfer → Result State Stop
+transfers_many image s this = if this.load then with_cpu s (loads_many s.cpu s.memory this) else stores_many image s this

@@ -58,7 +58,7 @@ outcome_of image s insn done = if done then effect image s insn.op else Ok (reco
 
 abbrev pub execute : ImageValue → Timing → State → Insn → Outcome
 execute image t s insn =
-    let done = condition_passes insn.cond s.cpu.flags in
+    let done = condition_passes insn.condition s.cpu.flags in
     charge t s insn done (outcome_of image s insn done)
 
 -- the step of what was fetched

@@ -1,5 +1,5 @@
 /// How many bytes an access to the memory touches.
-#[derive(Clone, Copy, Debug, PartialEq, Eq)]
+#[derive(Clone, Copy, Debug)]
 pub enum Size {
     /// One byte.
     Byte,

@@ -13,22 +13,17 @@ use crate::state::{MachineState, SP, Store, store_stop};
 use crate::stops::StepEnd;
 use crate::transfers::is_saved;
 use arm_cpu::{Cpu, PC, Stop};
+use arm_isa::BlockTransfer;
 use elf32_image::Image;
 
-/// LDM or STM: the registers of the list, and where their words stand.
-#[derive(Clone, Copy)]
-pub(crate) struct Block {
-    pub before: bool,
-    pub up: bool,
-    pub back: bool,
-    pub rn: u8,
-    pub list: u16,
-}
-
 /// Does LDM.
-pub(crate) fn load_many(cpu: &mut Cpu, memory: &Memory<'_>, block: Block) -> Result<(), Stop>
+pub(crate) fn load_many(
+    cpu: &mut Cpu,
+    memory: &Memory<'_>,
+    block: BlockTransfer,
+) -> Result<(), Stop>
     requires base { block.rn < 15 }
-    ensures { Does (loads_many cpu.old memory.now.bytes block.before block.up block.back block.rn block.list) cpu.old cpu.new result }
+    ensures { Does (loads_many cpu.old memory.now.bytes block) cpu.old cpu.new result }
 {
     let mut changed = rebased_block(cpu, block);
     changed.advance();
@@ -44,11 +39,11 @@ pub(crate) fn load_many(cpu: &mut Cpu, memory: &Memory<'_>, block: Block) -> Res
 pub(crate) fn store_many(
     state: &mut MachineState<'_>,
     image: &Image,
-    block: Block,
+    block: BlockTransfer,
 ) -> Result<(), StepEnd>
     requires base { block.rn < 15 }
     ensures cache { state.new.cache ≡ state.old.cache }
-    ensures effect { Ends (stores_many image.now (state_of state.old) block.before block.up block.back block.rn block.list) (state_of state.old) (state_of state.new) result }
+    ensures effect { Ends (stores_many image.now (state_of state.old) block) (state_of state.old) (state_of state.new) result }
 {
     let address = lowest(&state.cpu, block);
     let found = block_stop(
@@ -73,9 +68,9 @@ pub(crate) fn store_many(
 }
 
 /// The lowest address of a block.
-fn lowest(cpu: &Cpu, block: Block) -> u32
+fn lowest(cpu: &Cpu, block: BlockTransfer) -> u32
     requires { block.rn < 15 }
-    ensures { result ≡ lowest cpu.now block.before block.up block.rn block.list }
+    ensures { result ≡ lowest cpu.now block }
 {
     let base = cpu.read(block.rn);
     let bytes = 4 * block.list.count_ones();
@@ -87,22 +82,22 @@ fn lowest(cpu: &Cpu, block: Block) -> u32
     }
 }
 
-/// The registers with the address behind the block as base, where it is written back.
-fn rebased_block(cpu: &Cpu, block: Block) -> Cpu
+/// The registers with the address after the block as base, where it is written back.
+fn rebased_block(cpu: &Cpu, block: BlockTransfer) -> Cpu
     requires { block.rn < 15 }
-    ensures { result ≡ rebased_block cpu.now block.up block.back block.rn block.list }
+    ensures { result ≡ rebased_block cpu.now block }
 {
     let mut changed = *cpu;
-    if block.back {
+    if block.write_back {
         changed.set(block.rn, block_base(cpu, block));
     }
     changed
 }
 
-/// The base behind a block.
-fn block_base(cpu: &Cpu, block: Block) -> u32
+/// The base after a block.
+fn block_base(cpu: &Cpu, block: BlockTransfer) -> u32
     requires { block.rn < 15 }
-    ensures { result ≡ block_base cpu.now block.up block.rn block.list }
+    ensures { result ≡ block_base cpu.now block }
 {
     let base = cpu.read(block.rn);
     let bytes = 4 * block.list.count_ones();
@@ -180,12 +175,12 @@ fn block_stop(
 
 /// Stores the registers of a list to the words from an address on, each a multiple of 4. There is room.
 #[tactic(auto, using(crate::proofs::Listing::whole_list, crate::proofs::Listing::no_more, crate::proofs::Listing::stored_goes_on, crate::proofs::Listing::stored_skips, crate::proofs::Listing::aligned_parts, crate::proofs::Listing::aligned_later))]
-fn put_block(state: &mut MachineState<'_>, block: Block, lowest: u32)
+fn put_block(state: &mut MachineState<'_>, block: BlockTransfer, lowest: u32)
     requires aligned { AreAligned lowest (registers_of block.list) }
     requires marks { vec_len state.old.kept + 16 ≤ vec_capacity state.old.kept }
     requires bytes { 64 ≤ state.old.memory.room }
     ensures cache { state.new.cache ≡ state.old.cache }
-    ensures state { state_of state.new ≡ stored_block state.old.cpu (state_of state.old) block.rn lowest (is_push_block block.before block.up block.back block.rn) (registers_of block.list) }
+    ensures state { state_of state.new ≡ stored_block state.old.cpu (state_of state.old) block.rn lowest (is_push_block block) (registers_of block.list) }
 {
     let saves = is_push_block(block);
     let cpu = state.cpu;
@@ -212,8 +207,8 @@ fn is_marked(saves: bool, register: u8) -> bool
 }
 
 /// Whether a block is that of STMDB r13!.
-fn is_push_block(block: Block) -> bool
-    ensures { result ≡ is_push_block block.before block.up block.back block.rn }
+fn is_push_block(block: BlockTransfer) -> bool
+    ensures { result ≡ is_push_block block }
 {
-    block.before && !block.up && block.back && block.rn == SP
+    block.before && !block.up && block.write_back && block.rn == SP
 }

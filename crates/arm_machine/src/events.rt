@@ -1,7 +1,7 @@
 use arm_isa::Class;
 
 /// What can be seen of a step.
-#[derive(Clone, Copy, Debug, PartialEq, Eq)]
+#[derive(Clone, Copy, Debug)]
 pub struct Event {
     /// The address of the instruction.
     pub address: u32,

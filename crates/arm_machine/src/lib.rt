@@ -13,8 +13,6 @@ mod start;
 mod state;
 mod stepping;
 mod stops;
-#[cfg(test)]
-mod tests;
 mod transfers;
 
 pub use access::Size;

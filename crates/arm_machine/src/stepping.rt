@@ -11,7 +11,7 @@ use crate::events::Event;
 use crate::state::{MachineState, SP};
 use crate::stops::StepEnd;
 use arm_cpu::Stop;
-use arm_isa::{Insn, class_of, passes};
+use arm_isa::{Insn, class_of};
 use control_flow::{FetchFault, fetch};
 use elf32_image::Image;
 use fetch_timing::Timing;
@@ -48,7 +48,7 @@ fn step_insn(
     ensures step { Answers (execute image.now timing.now (state_of state.old) insn) (state_of state.old) (state_of state.new) result }
 {
     let address = state.cpu.pc;
-    let done = passes(insn.cond, state.cpu.flags);
+    let done = insn.condition.passes(state.cpu.flags);
     match outcome_of(state, image, insn, done) {
         Ok(()) => Ok(settle(state, timing, insn, done, address)),
         Err(end) => Err(end),

@@ -1,7 +1,7 @@
 use arm_cpu::Stop;
 
 /// Why a step gives no state.
-#[derive(Clone, Copy, Debug, PartialEq, Eq)]
+#[derive(Clone, Copy, Debug)]
 pub enum StepEnd {
     /// There was no memory for what the step writes.
     Memory,

@@ -1,24 +1,25 @@
 //! Loads and stores of one number.
 
 ghost use Rattle.std.specs.Prelude.{◌≡◌, ◌<◌};
-ghost use Rattle.arm_isa.specs.Ranges.{IsOffset};
+ghost use Rattle.arm_isa.specs.Ranges.{IsHalfTransfer, IsOffset, IsWordTransfer};
 ghost use Rattle.arm_isa.specs.Writes.{is_one_word, keeps_address};
 ghost use Rattle.arm_machine.specs.Access.{is_saved};
 ghost use Rattle.arm_cpu.specs.Registers.{Does};
 ghost use Rattle.arm_machine.specs.Machines.{Ends, state_of};
-ghost use Rattle.arm_machine.specs.Transfers.{accessed, changed_base, extended, is_before_back, is_push, kind_size, loads, offset_value, rebased, stores, transfers, word_size};
+ghost use Rattle.arm_machine.specs.Transfers.{IsTransfer, accessed, changed_base, extended, half_transfer, is_before_back, is_push, kind_size, loads, offset_value, rebased, stores, word_size, word_transfer};
 
 use crate::access::Size;
 use crate::memory::Memory;
 use crate::state::{MachineState, SP, Store, store_stop};
 use crate::stops::StepEnd;
 use arm_cpu::{Cpu, Stop, shift_value};
-use arm_isa::{HalfKind, Index, Offset};
+use arm_isa::{HalfKind, HalfTransfer, Index, Offset, WordTransfer};
 use elf32_image::Image;
 
 /// A load or store of one number: how many bytes, how a load fills them up, and where.
 #[derive(Clone, Copy)]
 pub(crate) struct Transfer {
+    pub load: bool,
     pub size: Size,
     pub kind: HalfKind,
     pub index: Index,
@@ -28,12 +29,48 @@ pub(crate) struct Transfer {
     pub offset: Offset,
 }
 
+impl Transfer {
+    /// That of LDR, STR, LDRB or STRB.
+    pub(crate) fn of_word(this: WordTransfer) -> Self
+        requires { IsWordTransfer this }
+        ensures exact { result ≡ word_transfer this }
+        ensures ranges { IsTransfer result }
+    {
+        Transfer {
+            load: this.load,
+            size: word_size(this.byte),
+            kind: HalfKind::Half,
+            index: this.index,
+            up: this.up,
+            rn: this.rn,
+            rd: this.rd,
+            offset: this.offset,
+        }
+    }
+
+    /// That of LDRH, STRH, LDRSB or LDRSH.
+    pub(crate) fn of_half(this: HalfTransfer) -> Self
+        requires { IsHalfTransfer this }
+        ensures exact { result ≡ half_transfer this }
+        ensures ranges { IsTransfer result }
+    {
+        Transfer {
+            load: this.load,
+            size: kind_size(this.kind),
+            kind: this.kind,
+            index: this.index,
+            up: this.up,
+            rn: this.rn,
+            rd: this.rd,
+            offset: this.offset,
+        }
+    }
+}
+
 /// Does a load.
 pub(crate) fn load(cpu: &mut Cpu, memory: &Memory<'_>, transfer: Transfer) -> Result<(), Stop>
-    requires base { transfer.rn < 16 }
-    requires destination { transfer.rd < 16 }
-    requires offset { IsOffset transfer.offset }
-    ensures { Does (loads cpu.old memory.now.bytes transfer.size transfer.kind transfer.index transfer.up transfer.rn transfer.rd transfer.offset) cpu.old cpu.new result }
+    requires { IsTransfer transfer }
+    ensures { Does (loads cpu.old memory.now.bytes transfer) cpu.old cpu.new result }
 {
     let value = memory.load(transfer.size, accessed(cpu, transfer))?;
     let mut changed = rebased(cpu, transfer);
@@ -48,11 +85,9 @@ pub(crate) fn store(
     image: &Image,
     transfer: Transfer,
 ) -> Result<(), StepEnd>
-    requires base { transfer.rn < 16 }
-    requires stored { transfer.rd < 16 }
-    requires offset { IsOffset transfer.offset }
+    requires { IsTransfer transfer }
     ensures cache { state.new.cache ≡ state.old.cache }
-    ensures effect { Ends (stores image.now (state_of state.old) transfer.size transfer.index transfer.up transfer.rn transfer.rd transfer.offset (is_push transfer.size transfer.index transfer.up transfer.rn transfer.rd transfer.offset)) (state_of state.old) (state_of state.new) result }
+    ensures effect { Ends (stores image.now (state_of state.old) transfer) (state_of state.old) (state_of state.new) result }
 {
     let address = accessed(&state.cpu, transfer);
     let found = store_stop(
@@ -85,9 +120,8 @@ pub(crate) fn store(
 
 /// The address of the access.
 fn accessed(cpu: &Cpu, transfer: Transfer) -> u32
-    requires base { transfer.rn < 16 }
-    requires offset { IsOffset transfer.offset }
-    ensures { result ≡ accessed cpu.now transfer.index transfer.up transfer.rn transfer.offset }
+    requires { IsTransfer transfer }
+    ensures { result ≡ accessed cpu.now transfer }
 {
     match transfer.index {
         Index::Before | Index::BeforeBack => changed_base(cpu, transfer),
@@ -97,9 +131,8 @@ fn accessed(cpu: &Cpu, transfer: Transfer) -> u32
 
 /// The registers with the changed address as base, where it is written back.
 fn rebased(cpu: &Cpu, transfer: Transfer) -> Cpu
-    requires base { transfer.rn < 16 }
-    requires offset { IsOffset transfer.offset }
-    ensures { result ≡ rebased cpu.now transfer.index transfer.up transfer.rn transfer.offset }
+    requires { IsTransfer transfer }
+    ensures { result ≡ rebased cpu.now transfer }
 {
     let mut changed = *cpu;
     match transfer.index {
@@ -113,9 +146,8 @@ fn rebased(cpu: &Cpu, transfer: Transfer) -> Cpu
 
 /// The base with the offset added or subtracted.
 fn changed_base(cpu: &Cpu, transfer: Transfer) -> u32
-    requires base { transfer.rn < 16 }
-    requires offset { IsOffset transfer.offset }
-    ensures { result ≡ changed_base cpu.now transfer.up transfer.rn transfer.offset }
+    requires { IsTransfer transfer }
+    ensures { result ≡ changed_base cpu.now transfer }
 {
     let base = cpu.read(transfer.rn);
     let offset = offset_value(cpu, transfer.offset);
@@ -160,7 +192,7 @@ fn extended(kind: HalfKind, value: u32) -> u32
 }
 
 /// How many bytes a halfword instruction moves.
-pub(crate) fn kind_size(kind: HalfKind) -> Size
+fn kind_size(kind: HalfKind) -> Size
     ensures { result ≡ kind_size kind }
 {
     match kind {
@@ -170,7 +202,7 @@ pub(crate) fn kind_size(kind: HalfKind) -> Size
 }
 
 /// How many bytes LDR and STR move.
-pub(crate) fn word_size(byte: bool) -> Size
+fn word_size(byte: bool) -> Size
     ensures { result ≡ word_size byte }
 {
     if byte { Size::Byte } else { Size::Word }
@@ -178,18 +210,14 @@ pub(crate) fn word_size(byte: bool) -> Size
 
 /// Whether a store is `STR Rd,[r13,#-4]!` of a register that calls save.
 fn is_push(transfer: Transfer) -> bool
-    ensures { result ≡ is_push transfer.size transfer.index transfer.up transfer.rn transfer.rd transfer.offset }
+    ensures { result ≡ is_push transfer }
 {
-    match transfer.size {
-        Size::Byte | Size::Half => false,
-        Size::Word => {
-            is_before_back(transfer.index)
-                && !transfer.up
-                && transfer.rn == SP
-                && is_one_word(transfer.offset)
-                && is_saved(transfer.rd)
-        }
-    }
+    matches!(transfer.size, Size::Word)
+        && is_before_back(transfer.index)
+        && !transfer.up
+        && transfer.rn == SP
+        && is_one_word(transfer.offset)
+        && is_saved(transfer.rd)
 }
 
 fn is_before_back(index: Index) -> bool

@@ -9,7 +9,7 @@ use arm_isa::{Insn, decode};
 use elf32_image::Image;
 
 /// Why no instruction can be taken from an address.
-#[derive(Clone, Copy, Debug, PartialEq, Eq)]
+#[derive(Clone, Copy, Debug)]
 pub enum FetchFault {
     /// The address isn't code.
     NoCode,

@@ -10,7 +10,7 @@ loop-register-preserved c =
     let old = c.args.state.now in
     let block = c.args.block in
     let r = c.loop-register.register in
-    let all = stored_block old.cpu (state_of old) block.rn c.args.lowest (is_push_block block.before block.up block.back block.rn) (registers_of block.list) in
+    let all = stored_block old.cpu (state_of old) block.rn c.args.lowest (is_push_block block) (registers_of block.list) in
     let kept = c.loop-register.invariant in
     elim c.if-is_listed.branch [
       | then-is_listed w ↦
