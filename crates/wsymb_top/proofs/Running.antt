@@ -15,8 +15,12 @@ use Rattle.arm_isa.specs.declared.instruction.Operand.{Operand}
 use Rattle.arm_isa.specs.declared.instruction.Operand.TheVariants as operand
 use Rattle.arm_isa.specs.declared.instruction.Shift.TheVariants as shift
 use Rattle.arm_isa.specs.declared.conditions.Flags.{Flags}
-use Rattle.arm_isa.specs.Conditions.{condition_passes}
-use Rattle.arm_isa.specs.Decoding.{is_test}
+use Rattle.arm_isa.specs.declared.conditions.Condition.{Condition}
+use Rattle.arm_isa.specs.declared.conditions.Condition.TheVariants.{Al}
+use Rattle.arm_isa.specs.declared.opcodes.Opcode.{Opcode}
+use Rattle.arm_isa.specs.declared.opcodes.Opcode.TheVariants.{Mov}
+use Rattle.arm_isa.specs.Conditions.{condition_passes, is_always}
+use Rattle.arm_isa.specs.Opcodes.{is_plain_move, is_test}
 use Rattle.arm_isa.specs.Writes.{op_writes}
 use Rattle.fetch_timing.specs.declared.timing.Timing.{Timing}
 use Rattle.fetch_timing.specs.Timings.{cost_of, point_cost, IsWithinLimits}
@@ -68,14 +72,15 @@ pub refused : {A : Type 0} (test : Bool) (x y : A) → test ≡ false → cond t
 refused true x y h = absurd (false≢true (sym h))
 refused false x y h = refl
 
-passes_always : (condition : ℕ) (flags : Flags) → eqb condition 14 ≡ true → condition_passes condition flags ≡ true
-passes_always condition flags always = subst (λ (k : ℕ). condition_passes k flags ≡ true) (sym (eqb-true condition 14 always)) refl
+passes_always : (condition : Condition) (flags : Flags) → is_always condition ≡ true → condition_passes condition flags ≡ true
+passes_always Al flags always = refl
+passes_always _ flags always = absurd (false≢true always)
 
 -- the step of an instruction whose condition always passes
-step_there : (image : ImageValue) (t : Timing) (s : State) (insn : Insn) → instruction_at image s.cpu.pc ≡ Some insn → eqb insn.cond 14 ≡ true → step image t s ≡ charge t s insn true (effect image s insn.op)
+step_there : (image : ImageValue) (t : Timing) (s : State) (insn : Insn) → instruction_at image s.cpu.pc ≡ Some insn → is_always insn.condition ≡ true → step image t s ≡ charge t s insn true (effect image s insn.op)
 step_there image t s insn found always =
     ap (step_of image t s) (chosen (is_code image s.cpu.pc) (decoded (instruction_at image s.cpu.pc)) _ (code_there image s.cpu.pc insn found) ∙ ap decoded found)
-    ∙ ap (λ (done : Bool). charge t s insn done (outcome_of image s insn done)) (passes_always insn.cond s.cpu.flags always)
+    ∙ ap (λ (done : Bool). charge t s insn done (outcome_of image s insn done)) (passes_always insn.condition s.cpu.flags always)
 
 -- What an instruction that goes on does to the registers: the next one follows, with register 14 as it was.
 pub record Follows (cpu next : Cpu) : Type 0 where
@@ -114,21 +119,16 @@ abbrev Passes : ImageValue → State → Op → Type 0
 Passes image s o = (next : Cpu) × (effect image s o ≡ Ok (record s { cpu = next })) × Follows s.cpu next
 
 plain_effect_op : (image : ImageValue) (s : State) (o : Op) → is_plain o ≡ true → op_writes o 14 ≡ false → op_writes o 15 ≡ false → Passes image s o
-plain_effect_op image s (op.Compute code flags rn rd operand) plain link jump =
-    let sum = computed code s.cpu.flags (operand_carry s.cpu operand) (read s.cpu rn) (operand_value s.cpu operand) in
-    let found = settled_follows (with_flags flags s.cpu sum) (is_test code) rd sum.value link jump in
-    (found.0, ap (with_cpu s) found.1, flagged flags s.cpu found.0 sum found.2)
-plain_effect_op image s (op.Multiply add flags rd rn rs rm) plain link jump =
-    (multiplies s.cpu add flags rd rn rs rm, refl, record { pc = refl; link = link_stays s.cpu.registers rd _ link })
-plain_effect_op image s (op.Long signed add flags hi lo rs rm) plain link jump =
-    let both = neither (eqb 14 hi) (eqb 14 lo) link in
-    let next = multiplies_long s.cpu signed add flags hi lo rs rm in
-    (next, refl, record { pc = refl; link = link_stays _ lo _ both.1 ∙ link_stays s.cpu.registers hi _ both.0 })
-plain_effect_op image s (op.Word load byte index up rn rd offset) plain link jump = absurd (false≢true plain)
-plain_effect_op image s (op.Half load kind index up rn rd offset) plain link jump = absurd (false≢true plain)
-plain_effect_op image s (op.Many load before up back rn list) plain link jump = absurd (false≢true plain)
-plain_effect_op image s (op.Branch linked words) plain link jump = absurd (false≢true plain)
-plain_effect_op image s (op.Exchange rm) plain link jump = absurd (false≢true plain)
+plain_effect_op image s (op.Compute this) plain link jump =
+    let sum = computed this.opcode s.cpu.flags (operand_carry s.cpu this.operand) (read s.cpu this.rn) (operand_value s.cpu this.operand) in
+    let found = settled_follows (with_flags this.set_flags s.cpu sum) (is_test this.opcode) this.rd sum.value link jump in
+    (found.0, ap (with_cpu s) found.1, flagged this.set_flags s.cpu found.0 sum found.2)
+plain_effect_op image s (op.Multiply this) plain link jump =
+    (multiplies s.cpu this, refl, record { pc = refl; link = link_stays s.cpu.registers this.rd _ link })
+plain_effect_op image s (op.MultiplyLong this) plain link jump =
+    let both = neither (eqb 14 this.rd_hi) (eqb 14 this.rd_lo) link in
+    (multiplies_long s.cpu this, refl, record { pc = refl; link = link_stays _ this.rd_lo _ both.1 ∙ link_stays s.cpu.registers this.rd_hi _ both.0 })
+plain_effect_op image s _ plain link jump = absurd (false≢true plain)
 
 plain_effect : (image : ImageValue) (s : State) (insn : Insn) → IsTrue (goes_on insn) → Passes image s insn.op
 plain_effect image s insn on =
@@ -137,12 +137,12 @@ plain_effect image s insn on =
     (not_true _ (second_test _ _ (first_test _ _ on)))
     (not_true _ (second_test _ _ on))
 
-always_on : (insn : Insn) → IsTrue (goes_on insn) → eqb insn.cond 14 ≡ true
+always_on : (insn : Insn) → IsTrue (goes_on insn) → is_always insn.condition ≡ true
 always_on insn on = first_test _ _ (first_test _ _ (first_test _ _ (first_test _ _ on)))
 
 -- the cost of an instruction that is always done
-cost_on : (t : Timing) (insn : Insn) → eqb insn.cond 14 ≡ true → cost_of t insn true ≡ point_cost t insn
-cost_on t insn always = sym (chosen (eqb insn.cond 14) _ _ always)
+cost_on : (t : Timing) (insn : Insn) → is_always insn.condition ≡ true → cost_of t insn true ≡ point_cost t insn
+cost_on t insn always = sym (chosen (is_always insn.condition) _ _ always)
 
 -- The line fetched last, if any, stands in its set.
 abbrev IsFresh : Timing → List (List ℕ) → Option ℕ → Type 0
@@ -225,43 +225,45 @@ home_already image t home s (suc n) c there returns = absurd (returns.0 there)
 abbrev GoesHome : ImageValue → State → Op → Type 0
 GoesHome image s o = effect image s o ≡ with_cpu s (jumped s.cpu (slice_index s.cpu.registers 14))
 
+is_mov : (opcode : Opcode) → is_plain_move opcode ≡ true → opcode ≡ Mov
+is_mov Mov move = refl
+is_mov _ move = absurd (false≢true move)
+
+-- data processing, part by part
+abbrev computing : Opcode → Bool → ℕ → ℕ → Operand → Op
+computing opcode set_flags rn rd operand = op.Compute (record { opcode = opcode; set_flags = set_flags; rn = rn; rd = rd; operand = operand })
+
 -- MOV r15,r14 goes to register 14
-mov_exit : (image : ImageValue) (s : State) (code : ℕ) (flags : Bool) (rn rd rm amount : ℕ) → slice_index s.cpu.registers 14 < 2 ^ 32 → code ≡ 13 → flags ≡ false → rd ≡ 15 → rm ≡ 14 → amount ≡ 0 → GoesHome image s (op.Compute code flags rn rd (operand.Shifted rm (shift.Lsl amount)))
-mov_exit image s code flags rn rd rm amount small is_mov no_flags to_pc of_link unshifted =
-    ap (λ (c : ℕ). effect image s (op.Compute c flags rn rd (operand.Shifted rm (shift.Lsl amount)))) is_mov
-    ∙ ap (λ (f : Bool). effect image s (op.Compute 13 f rn rd (operand.Shifted rm (shift.Lsl amount)))) no_flags
-    ∙ ap (λ (r : ℕ). effect image s (op.Compute 13 false rn r (operand.Shifted rm (shift.Lsl amount)))) to_pc
-    ∙ ap (λ (r : ℕ). effect image s (op.Compute 13 false rn 15 (operand.Shifted r (shift.Lsl amount)))) of_link
-    ∙ ap (λ (n : ℕ). effect image s (op.Compute 13 false rn 15 (operand.Shifted 14 (shift.Lsl n)))) unshifted
+mov_exit : (image : ImageValue) (s : State) (opcode : Opcode) (set_flags : Bool) (rn rd rm amount : ℕ) → slice_index s.cpu.registers 14 < 2 ^ 32 → opcode ≡ Mov → set_flags ≡ false → rd ≡ 15 → rm ≡ 14 → amount ≡ 0 → GoesHome image s (computing opcode set_flags rn rd (operand.Shifted rm (shift.Lsl amount)))
+mov_exit image s opcode set_flags rn rd rm amount small move no_flags to_pc of_link unshifted =
+    ap (λ (o : Opcode). effect image s (computing o set_flags rn rd (operand.Shifted rm (shift.Lsl amount)))) move
+    ∙ ap (λ (f : Bool). effect image s (computing Mov f rn rd (operand.Shifted rm (shift.Lsl amount)))) no_flags
+    ∙ ap (λ (r : ℕ). effect image s (computing Mov false rn r (operand.Shifted rm (shift.Lsl amount)))) to_pc
+    ∙ ap (λ (r : ℕ). effect image s (computing Mov false rn 15 (operand.Shifted r (shift.Lsl amount)))) of_link
+    ∙ ap (λ (n : ℕ). effect image s (computing Mov false rn 15 (operand.Shifted 14 (shift.Lsl n)))) unshifted
     ∙ ap (λ (value : ℕ). with_cpu s (jumped s.cpu value)) (let e : slice_index s.cpu.registers 14 * 1 % 2 ^ 32 ≡ slice_index s.cpu.registers 14 = omega arith in e)
 
-compute_exit : (image : ImageValue) (s : State) (code : ℕ) (flags : Bool) (rn rd : ℕ) (operand : Operand) → slice_index s.cpu.registers 14 < 2 ^ 32 → is_exit (op.Compute code flags rn rd operand) ≡ true → GoesHome image s (op.Compute code flags rn rd operand)
-compute_exit image s code flags rn rd (operand.Value value turned) small exit = absurd (false≢true (second_test ((eqb code 13 && not flags) && eqb rd 15) false exit))
-compute_exit image s code flags rn rd (operand.ByRegister rm kind rs) small exit = absurd (false≢true (second_test ((eqb code 13 && not flags) && eqb rd 15) false exit))
-compute_exit image s code flags rn rd (operand.Shifted rm (shift.Lsr amount)) small exit = absurd (false≢true (second_test ((eqb code 13 && not flags) && eqb rd 15) false exit))
-compute_exit image s code flags rn rd (operand.Shifted rm (shift.Asr amount)) small exit = absurd (false≢true (second_test ((eqb code 13 && not flags) && eqb rd 15) false exit))
-compute_exit image s code flags rn rd (operand.Shifted rm (shift.Ror amount)) small exit = absurd (false≢true (second_test ((eqb code 13 && not flags) && eqb rd 15) false exit))
-compute_exit image s code flags rn rd (operand.Shifted rm shift.Rrx) small exit = absurd (false≢true (second_test ((eqb code 13 && not flags) && eqb rd 15) false exit))
-compute_exit image s code flags rn rd (operand.Shifted rm (shift.Lsl amount)) small exit =
-    let head : (eqb code 13 && not flags) && eqb rd 15 ≡ true = first_test ((eqb code 13 && not flags) && eqb rd 15) (eqb rm 14 && eqb amount 0) exit in
-    let link : eqb rm 14 && eqb amount 0 ≡ true = second_test ((eqb code 13 && not flags) && eqb rd 15) (eqb rm 14 && eqb amount 0) exit in
-    let front : eqb code 13 && not flags ≡ true = first_test (eqb code 13 && not flags) (eqb rd 15) head in
-    mov_exit image s code flags rn rd rm amount small
-    (eqb-true code 13 (first_test (eqb code 13) (not flags) front))
-    (not_true flags (second_test (eqb code 13) (not flags) front))
-    (eqb-true rd 15 (second_test (eqb code 13 && not flags) (eqb rd 15) head))
+-- MOV without S to r15
+abbrev moves_to_pc : Opcode → Bool → ℕ → Bool
+moves_to_pc opcode set_flags rd = (is_plain_move opcode && not set_flags) && eqb rd 15
+
+compute_exit : (image : ImageValue) (s : State) (opcode : Opcode) (set_flags : Bool) (rn rd : ℕ) (operand : Operand) → slice_index s.cpu.registers 14 < 2 ^ 32 → is_exit (computing opcode set_flags rn rd operand) ≡ true → GoesHome image s (computing opcode set_flags rn rd operand)
+compute_exit image s opcode set_flags rn rd (operand.Shifted rm (shift.Lsl amount)) small exit =
+    let head : moves_to_pc opcode set_flags rd ≡ true = first_test (moves_to_pc opcode set_flags rd) (eqb rm 14 && eqb amount 0) exit in
+    let link : eqb rm 14 && eqb amount 0 ≡ true = second_test (moves_to_pc opcode set_flags rd) (eqb rm 14 && eqb amount 0) exit in
+    let front : is_plain_move opcode && not set_flags ≡ true = first_test (is_plain_move opcode && not set_flags) (eqb rd 15) head in
+    mov_exit image s opcode set_flags rn rd rm amount small
+    (is_mov opcode (first_test (is_plain_move opcode) (not set_flags) front))
+    (not_true set_flags (second_test (is_plain_move opcode) (not set_flags) front))
+    (eqb-true rd 15 (second_test (is_plain_move opcode && not set_flags) (eqb rd 15) head))
     (eqb-true rm 14 (first_test (eqb rm 14) (eqb amount 0) link))
     (eqb-true amount 0 (second_test (eqb rm 14) (eqb amount 0) link))
+compute_exit image s opcode set_flags rn rd _ small exit = absurd (false≢true (second_test (moves_to_pc opcode set_flags rd) false exit))
 
 exit_effect : (image : ImageValue) (s : State) (o : Op) → slice_index s.cpu.registers 14 < 2 ^ 32 → is_exit o ≡ true → GoesHome image s o
-exit_effect image s (op.Compute code flags rn rd operand) small exit = compute_exit image s code flags rn rd operand small exit
-exit_effect image s (op.Multiply add flags rd rn rs rm) small exit = absurd (false≢true exit)
-exit_effect image s (op.Long signed add flags hi lo rs rm) small exit = absurd (false≢true exit)
-exit_effect image s (op.Word load byte index up rn rd offset) small exit = absurd (false≢true exit)
-exit_effect image s (op.Half load kind index up rn rd offset) small exit = absurd (false≢true exit)
-exit_effect image s (op.Many load before up back rn list) small exit = absurd (false≢true exit)
-exit_effect image s (op.Branch linked words) small exit = absurd (false≢true exit)
-exit_effect image s (op.Exchange rm) small exit = ap (λ (r : ℕ). with_cpu s (jumped s.cpu (read s.cpu r))) (eqb-true rm 14 exit)
+exit_effect image s (op.Compute this) small exit = compute_exit image s this.opcode this.set_flags this.rn this.rd this.operand small exit
+exit_effect image s (op.Exchange this) small exit = ap (λ (r : ℕ). with_cpu s (jumped s.cpu (read s.cpu r))) (eqb-true this.rm 14 exit)
+exit_effect image s _ small exit = absurd (false≢true exit)
 
 -- a jump that doesn't stop
 landed : (image : ImageValue) (t : Timing) (home : ℕ) (s : State) (insn : Insn) (n c value : ℕ) (test : Bool) → IfNext (charge t s insn true (with_cpu s (cond test (Ok (record s.cpu { pc = value })) (Err stop.Leaves)))) (IsRest image t home n c) → IsRest image t home n c (settle t s.cpu.pc (record s { cpu = record s.cpu { pc = value } })) (cost_of t insn true + penalty t s.sets (line_of t s.cpu.pc))
@@ -281,7 +283,7 @@ both_within : (cost most penalty limit : ℕ) → cost ≡ most → penalty ≤ 
 both_within cost most penalty limit same small = omega arith
 
 -- what one step costs at most
-spent_within : (t : Timing) (home : ℕ) (insn : Insn) (a : ℕ) (last : Option ℕ) (s : State) → eqb insn.cond 14 ≡ true → IsAt t a home last s → cost_of t insn true + penalty t s.sets (line_of t s.cpu.pc) ≤ point_cost t insn + cond (is_last last (line_of t a)) 0 t.miss
+spent_within : (t : Timing) (home : ℕ) (insn : Insn) (a : ℕ) (last : Option ℕ) (s : State) → is_always insn.condition ≡ true → IsAt t a home last s → cost_of t insn true + penalty t s.sets (line_of t s.cpu.pc) ≤ point_cost t insn + cond (is_last last (line_of t a)) 0 t.miss
 spent_within t home insn a last s always at =
     both_within (cost_of t insn true) (point_cost t insn) (penalty t s.sets (line_of t s.cpu.pc)) (cond (is_last last (line_of t a)) 0 t.miss) (cost_on t insn always)
     (subst (λ (p : ℕ). penalty t s.sets (line_of t p) ≤ cond (is_last last (line_of t a)) 0 t.miss) (sym at.pc) (penalty_within t s.sets last (line_of t a) at.fresh))
@@ -289,15 +291,15 @@ spent_within t home insn a last s always at =
 total_within : (c spent rest first others whole : ℕ) → c ≡ spent + rest → spent ≤ first → rest ≤ others → whole ≡ first + others → c ≤ whole
 total_within c spent rest first others whole sum head tail all = omega arith
 
-stepped : (image : ImageValue) (t : Timing) (home a : ℕ) (last : Option ℕ) (s : State) (insn : Insn) → instruction_at image a ≡ Some insn → eqb insn.cond 14 ≡ true → IsAt t a home last s → step image t s ≡ charge t s insn true (effect image s insn.op)
+stepped : (image : ImageValue) (t : Timing) (home a : ℕ) (last : Option ℕ) (s : State) (insn : Insn) → instruction_at image a ≡ Some insn → is_always insn.condition ≡ true → IsAt t a home last s → step image t s ≡ charge t s insn true (effect image s insn.op)
 stepped image t home a last s insn found always at =
     step_there image t s insn (subst (λ (p : ℕ). instruction_at image p ≡ Some insn) (sym at.pc) found) always
 
 -- the last instruction of a straight function
 last_within : (image : ImageValue) (t : Timing) (home : ℕ) (insn : Insn) (a : ℕ) (last : Option ℕ) (s : State) (n c : ℕ) → instruction_at image a ≡ Some insn → IsTrue (ends_well insn) → IsAt t a home last s → IfNext (step image t s) (IsRest image t home n c) → c ≤ cycles_of t last a (insn ∷ [])
 last_within image t home insn a last s n c found end at run =
-    let always : eqb insn.cond 14 ≡ true = first_test (eqb insn.cond 14) (is_exit insn.op) end in
-    let exit : is_exit insn.op ≡ true = second_test (eqb insn.cond 14) (is_exit insn.op) end in
+    let always : is_always insn.condition ≡ true = first_test (is_always insn.condition) (is_exit insn.op) end in
+    let exit : is_exit insn.op ≡ true = second_test (is_always insn.condition) (is_exit insn.op) end in
     let small : slice_index s.cpu.registers 14 < 2 ^ 32 = subst (λ (w : ℕ). w < 2 ^ 32) (sym at.link) at.word in
     let value = slice_index s.cpu.registers 14 in
     let spent = cost_of t insn true + penalty t s.sets (line_of t s.cpu.pc) in

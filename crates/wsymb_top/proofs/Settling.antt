@@ -7,7 +7,9 @@ use Rattle.elf32_image.specs.Bytes.{is_code}
 use Rattle.arm_isa.specs.declared.instruction.Insn.{Insn}
 use Rattle.arm_isa.specs.declared.instruction.Op.{Op}
 use Rattle.arm_isa.specs.declared.instruction.Op.TheVariants as op
-use Rattle.arm_isa.specs.Decoding.{is_test}
+use Rattle.arm_isa.specs.declared.opcodes.Opcode.{Opcode}
+use Rattle.arm_isa.specs.declared.opcodes.Opcode.TheVariants.{Mov}
+use Rattle.arm_isa.specs.Opcodes.{is_plain_move, is_test}
 use Rattle.arm_isa.specs.Writes.{op_writes}
 use Rattle.control_flow.specs.Instructions.{instruction_at}
 use Rattle.control_flow.specs.Points.{next_address}
@@ -38,19 +40,17 @@ never true denied = absurd (denied refl)
 never false denied = refl
 
 -- an exit that is data processing writes r15
+plain_move_writes : (opcode : Opcode) → is_plain_move opcode ≡ true → not (is_test opcode) ≡ true
+plain_move_writes Mov move = refl
+plain_move_writes _ move = absurd (false≢true move)
+
 exit_writes : (o : Op) → is_plain o ≡ true → is_exit o ≡ true → op_writes o 15 ≡ true
-exit_writes (op.Compute code flags rn rd operand) plain exit =
-    let is_mov = eqb-true code 13 (first_test _ _ (first_test _ _ (first_test _ _ exit))) in
-    let to_pc = eqb-true rd 15 (second_test _ _ (first_test _ _ exit)) in
-    subst (λ (c : ℕ). not (is_test c) && eqb 15 rd ≡ true) (sym is_mov)
-    (subst (λ (r : ℕ). not (is_test 13) && eqb 15 r ≡ true) (sym to_pc) refl)
-exit_writes (op.Multiply add flags rd rn rs rm) plain exit = absurd (false≢true exit)
-exit_writes (op.Long signed add flags hi lo rs rm) plain exit = absurd (false≢true exit)
-exit_writes (op.Word load byte index up rn rd offset) plain exit = absurd (false≢true plain)
-exit_writes (op.Half load kind index up rn rd offset) plain exit = absurd (false≢true plain)
-exit_writes (op.Many load before up back rn list) plain exit = absurd (false≢true plain)
-exit_writes (op.Branch linked words) plain exit = absurd (false≢true plain)
-exit_writes (op.Exchange rm) plain exit = absurd (false≢true plain)
+exit_writes (op.Compute this) plain exit =
+    let writes = plain_move_writes this.opcode (first_test _ _ (first_test _ _ (first_test _ _ exit))) in
+    let to_pc = eqb-true this.rd 15 (second_test _ _ (first_test _ _ exit)) in
+    subst (λ (b : Bool). b && eqb 15 this.rd ≡ true) (sym writes) (subst (λ (r : ℕ). eqb 15 r ≡ true) (sym to_pc) refl)
+exit_writes (op.Exchange this) plain exit = absurd (false≢true plain)
+exit_writes _ plain exit = absurd (false≢true exit)
 
 not_ended : (insn : Insn) → IsTrue (goes_on insn) → ends_well insn ≡ false
 not_ended insn on =

@@ -5,39 +5,31 @@ use Rattle.elf32_image.specs.Bytes.{is_code}
 use Rattle.arm_isa.specs.declared.instruction.Insn.{Insn}
 use Rattle.arm_isa.specs.declared.instruction.Op.{Op}
 use Rattle.arm_isa.specs.declared.instruction.Op.TheVariants as op
-use Rattle.arm_isa.specs.Writes.{is_link_register, writes_register}
+use Rattle.arm_isa.specs.Conditions.{is_always}
+use Rattle.arm_isa.specs.Writes.{op_returns, writes_register}
 use Rattle.control_flow.specs.Instructions.{instruction_at}
 use Rattle.control_flow.specs.Points.{next_address}
 
 -- data processing and multiplications
 abbrev pub is_plain : Op → Bool
-is_plain (op.Compute code flags rn rd operand) = true
-is_plain (op.Multiply add flags rd rn rs rm) = true
-is_plain (op.Long signed add flags hi lo rs rm) = true
-is_plain (op.Word load byte index up rn rd offset) = false
-is_plain (op.Half load kind index up rn rd offset) = false
-is_plain (op.Many load before up back rn list) = false
-is_plain (op.Branch link words) = false
-is_plain (op.Exchange rm) = false
+is_plain (op.Compute this) = true
+is_plain (op.Multiply this) = true
+is_plain (op.MultiplyLong this) = true
+is_plain _ = false
 
 -- MOV r15,r14 without shift and without S, or BX r14
 abbrev pub is_exit : Op → Bool
-is_exit (op.Compute code flags rn rd operand) = (code == 13) && not flags && (rd == 15) && is_link_register operand
-is_exit (op.Multiply add flags rd rn rs rm) = false
-is_exit (op.Long signed add flags hi lo rs rm) = false
-is_exit (op.Word load byte index up rn rd offset) = false
-is_exit (op.Half load kind index up rn rd offset) = false
-is_exit (op.Many load before up back rn list) = false
-is_exit (op.Branch link words) = false
-is_exit (op.Exchange rm) = rm == 14
+is_exit (op.Compute this) = op_returns (op.Compute this)
+is_exit (op.Exchange this) = op_returns (op.Exchange this)
+is_exit _ = false
 
 -- always done, and then the next one follows with the stack pointer and the return address as they were
 abbrev pub goes_on : Insn → Bool
-goes_on insn = (insn.cond == 14) && is_plain insn.op && not (writes_register insn 13) && not (writes_register insn 14) && not (writes_register insn 15)
+goes_on insn = is_always insn.condition && is_plain insn.op && not (writes_register insn 13) && not (writes_register insn 14) && not (writes_register insn 15)
 
 -- always done, and goes to the return address
 abbrev pub ends_well : Insn → Bool
-ends_well insn = (insn.cond == 14) && is_exit insn.op
+ends_well insn = is_always insn.condition && is_exit insn.op
 
 -- these instructions stand from a on, each goes on, and b is the address behind them
 abbrev pub IsPassed : ImageValue → ℕ → List Insn → ℕ → Type 0

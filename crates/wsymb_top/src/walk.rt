@@ -11,9 +11,6 @@ use std::alloc::{AllocError, Global};
 /// The instructions that a straight function has at most.
 const MOST: usize = 100;
 
-/// The condition that always passes.
-const ALWAYS: u8 = 14;
-
 /// What a walk along a function finds.
 #[derive(Drop)]
 pub(crate) enum Walk {
@@ -81,7 +78,7 @@ fn step_at(image: &Image, address: u32) -> Step
 fn goes_on(insn: &Insn) -> bool
     ensures { result ≡ goes_on insn.now }
 {
-    insn.cond == ALWAYS
+    insn.condition.is_always()
         && is_plain(&insn.op)
         && !may_write(insn, 13)
         && !may_write(insn, 14)
@@ -92,17 +89,14 @@ fn goes_on(insn: &Insn) -> bool
 fn ends_well(insn: &Insn) -> bool
     ensures { result ≡ ends_well insn.now }
 {
-    insn.cond == ALWAYS && is_exit(insn)
+    insn.condition.is_always() && is_exit(insn)
 }
 
 /// Whether this is data processing or a multiplication.
 fn is_plain(op: &Op) -> bool
     ensures { result ≡ is_plain op.now }
 {
-    matches!(
-        op,
-        Op::Compute { .. } | Op::Multiply { .. } | Op::Long { .. }
-    )
+    matches!(op, Op::Compute(_) | Op::Multiply(_) | Op::MultiplyLong(_))
 }
 
 /// Whether this is BX r14 or MOV r15,r14: of the returns those that read no memory.
@@ -110,7 +104,7 @@ fn is_exit(insn: &Insn) -> bool
     ensures { result ≡ is_exit insn.now.op }
 {
     match insn.op {
-        Op::Compute { .. } | Op::Exchange { .. } => is_return(insn),
+        Op::Compute(_) | Op::Exchange(_) => is_return(insn),
         _ => false,
     }
 }
