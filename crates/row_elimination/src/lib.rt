@@ -15,4 +15,4 @@ mod weights;
 
 pub use derived::{Derived, are_same};
 pub use steps::{Equality, Step, eliminate};
-pub use weights::{Multiplier, Support, product};
+pub use weights::{Multiplier, Support, product_below_limit};

@@ -1,6 +1,6 @@
 //! Steps of the elimination on small lists.
 
-use crate::{Derived, Multiplier, Step, Support, are_same, eliminate, product};
+use crate::{Derived, Multiplier, Step, Support, are_same, eliminate, product_below_limit};
 use linear_rows::{Form, Row, RowTerm, Var};
 use sqlite_items::Items;
 use std::alloc::Global;
@@ -138,6 +138,7 @@ fn bound(rt: &impl Abort, alloc: Global) -> Result<Option<Derived>, Fail> {
     let row = row(rt, alloc, &CHAIN[1])?;
     let given = Derived::given(alloc, 0, &row)?;
     let least = Derived::at_least_last(alloc, &row)?;
+    assert!(rt; given.is_positive_in(&Y) && least.is_negative_in(&Y));
     Ok(given.combine(alloc, &Y, &least)?)
 }
 
@@ -158,8 +159,8 @@ fn a_bound_of_the_last_variable(rt: HostRuntime) -> Result<(), Fail> {
 
 #[test]
 fn numbers_stay_below_their_limit(rt: HostRuntime) -> Result<(), Fail> {
-    assert_eq!(rt; product(1 << 126, 1), Some(1 << 126));
-    assert_eq!(rt; product(1 << 126, 2), None);
+    assert_eq!(rt; product_below_limit(1 << 126, 1), Some(1 << 126));
+    assert_eq!(rt; product_below_limit(1 << 126, 2), None);
     assert!(rt; step(&rt, rt.alloc(), &GREATEST)?.is_none());
     Ok(())
 }
