@@ -13,7 +13,7 @@ use std::alloc::{AllocError, Global};
 use std::cmp::Ordering;
 
 /// A point that gives numbers to some variables and to the last one, over one divisor.
-#[derive(Debug, Drop)]
+#[derive(Drop)]
 pub(crate) struct Placed {
     /// The variables.
     pub(crate) vars: Items<Var>,
@@ -35,7 +35,7 @@ pub(crate) struct Limit {
 }
 
 /// A step of a run: the variable with the rows that mentioned it.
-#[derive(Debug, Drop)]
+#[derive(Drop)]
 pub(crate) struct Level {
     /// The variable.
     pub(crate) var: Var,

@@ -18,8 +18,6 @@ mod laws;
 mod lowest;
 mod rows;
 mod term_list;
-#[cfg(test)]
-mod tests;
 mod weighing;
 
 pub use forms::{ClosingRows, Form, NetChange, Test};

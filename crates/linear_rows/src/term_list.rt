@@ -4,7 +4,7 @@ use std::alloc::{AllocError, Global};
 use std::marker::Model;
 
 /// A list of terms. Up to four stand in the value itself, and take no memory.
-#[derive(Debug, Drop)]
+#[derive(Drop)]
 pub struct Terms {
     kept: SmallVec<RowTerm, 4>,
 }

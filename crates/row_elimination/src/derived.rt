@@ -18,7 +18,7 @@ use std::marker::Model;
 
 /// A row derived from given ones: terms, plus a multiple of one more variable, the last, are at most a
 /// constant. The last variable stands for the left side of a row that is tested.
-#[derive(Debug, Drop)]
+#[derive(Drop)]
 pub struct Derived {
     terms: Terms,
     last: i128,

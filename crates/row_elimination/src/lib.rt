@@ -9,8 +9,6 @@
 
 mod derived;
 mod steps;
-#[cfg(test)]
-mod tests;
 mod weights;
 
 pub use derived::{Derived, are_same};

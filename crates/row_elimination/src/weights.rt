@@ -9,7 +9,7 @@ use std::alloc::{AllocError, Global};
 const LIMIT: u128 = 1 << 127;
 
 /// A row of a list, and how often it is taken.
-#[derive(Clone, Copy, Debug, PartialEq, Eq)]
+#[derive(Clone, Copy)]
 pub struct Multiplier {
     /// The place of the row in the list, from 0 on.
     pub row: u64,
@@ -18,7 +18,7 @@ pub struct Multiplier {
 }
 
 /// How a derived row follows from the given ones: the sum of the multiplied rows, divided by the divisor.
-#[derive(Debug, Drop)]
+#[derive(Drop)]
 pub struct Support {
     /// The rows of the sum, in ascending order.
     pub multipliers: Items<Multiplier>,
