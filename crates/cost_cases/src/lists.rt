@@ -71,7 +71,7 @@ fn united(alloc: Global, left: Multi, right: &Multi) -> Result<Multi, AllocError
     Ok(left)
 }
 
-/// The groups of so many places, or of a count without bound.
+/// The groups of a number of places, or of a count without bound.
 fn grouped(alloc: Global, costs: &Multi, count: &str) -> Result<Multi, AllocError> {
     if count == "unbounded" {
         return costs.group(alloc, Cost::Unbounded);

@@ -15,8 +15,8 @@
 //! ```
 //!
 //! A form is its constant and then its terms, as `-3 2*%r0 -1*#1`; a row likewise, whose terms are at most the
-//! constant. Variables are `%r0`, `[-4]`, `p0`, `%sp` and `#1`; no rows are `-`. What stands in brackets at the end says
-//! why the line is here.
+//! constant. Variables are `%r0`, `[-4]`, `p0`, `%sp` and `#1`; no rows are `-`. What stands in brackets at the end
+//! says why the line is here.
 #![tactic(auto)]
 
 mod entailment;
