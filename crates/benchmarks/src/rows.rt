@@ -1,16 +1,13 @@
-//! Combines two rows again and again: `bench_rows TERMS TIMES`, the terms of each row and how often.
-//!
-//! The rows have half of their variables in common. What is printed, the sum of the constants of all the
-//! combinations, keeps the work from being left out; a script takes the time.
-#![tactic(auto)]
+//! Combinations of two rows that have half of their variables in common: `rows TERMS TIMES`, the terms of each row and
+//! how often they are combined. The result is the sum of the constants of all the combinations.
 
+use crate::words::{small_number, word};
 use anyhow::bail;
 use linear_rows::{Form, Row, RowTerm, Var};
 use sqlite_items::Items;
 use std::alloc::Global;
-use std::env;
 
-/// A row of so many parameters from a number on, with the factors from another number on.
+/// A row of parameters from a number on, with the factors from another number on.
 fn row(alloc: Global, from: u8, terms: u8, factor: u8) -> anyhow::Result<Row> {
     let mut items = Vec::new(alloc);
     for place in 0..terms {
@@ -32,7 +29,7 @@ fn row(alloc: Global, from: u8, terms: u8, factor: u8) -> anyhow::Result<Row> {
     }
 }
 
-/// The sum of the constants of so many combinations.
+/// The sum of the constants of a number of combinations.
 fn combine(alloc: Global, first: &Row, second: &Row, times: u32) -> anyhow::Result<i128> {
     let mut sum = 0i128;
     for time in 0..times {
@@ -43,21 +40,14 @@ fn combine(alloc: Global, first: &Row, second: &Row, times: u32) -> anyhow::Resu
     Ok(sum)
 }
 
-fn main(rt: HostRuntime) -> anyhow::Result<()> {
-    let alloc = rt.alloc();
-    let mut words = env::args(&rt)?.skip(1);
-    let (Some(terms), Some(times)) = (words.next(), words.next()) else {
-        bail!("usage: bench_rows TERMS TIMES");
+/// The sum of the constants of the combinations.
+pub(crate) fn done(alloc: Global, words: &[String]) -> anyhow::Result<String> {
+    let Ok(terms) = word(words, 1).parse::<u8>() else {
+        bail!("no number of terms");
     };
-    let Ok(terms) = terms.parse::<u8>() else {
-        bail!("bad number of terms");
-    };
-    let Ok(times) = times.parse::<u32>() else {
-        bail!("bad number of times");
-    };
+    let times = small_number(words, 2)?;
     let first = row(alloc, 0, terms, 3)?;
     let second = row(alloc, terms / 2, terms, 5)?;
     let sum = combine(alloc, &first, &second, times)?;
-    println!(rt; "{sum}")?;
-    Ok(())
+    Ok(format!(in alloc; "{sum}")?)
 }

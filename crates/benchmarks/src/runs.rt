@@ -1,20 +1,20 @@
-//! Runs a counted loop: `bench_run HOW TURNS`, where HOW is `bare` for the machine's steps alone or `probes` for
-//! a run that two counters watch.
+//! Runs of a counted loop: `run bare TURNS` by the machine's steps alone, `run probes TURNS` by a run that two counters
+//! watch.
 //!
-//! The loop takes 4 steps a turn, all of them out of the cache. What is printed, the steps and their cycles, keeps
-//! the work from being left out; a script takes the time.
-#![tactic(auto)]
+//! The loop takes 4 steps a turn, all of them out of the cache. The result is the steps and their cycles, and what the
+//! counters have: the steps once more, and the misses.
 
 ghost use Rattle.std.specs.Prelude.{◌≡◌};
 
+use crate::words::word;
 use anyhow::bail;
 use arm_machine::{Machine, RegisterValue};
 use elf32_image::read_image;
 use fetch_timing::Timing;
 use machine_probe::{Counter, Probe, Rule, RunEnd, Weigh, run};
-use std::env;
+use std::alloc::Global;
 
-/// An ELF32 ARM executable with one segment at 0x8000: MOV r1,#0; CMP r1,r0; BGE behind the loop; ADD r1,r1,#1; B back
+/// An ELF32 ARM executable with one segment at 0x8000: MOV r1,#0; CMP r1,r0; BGE past the loop; ADD r1,r1,#1; B back
 /// to CMP; BX r14.
 static FILE: [u8; 108] = [
     0x7f, 0x45, 0x4c, 0x46, 0x01, 0x01, 0x01, 0x00, 0x00, 0x00, 0x00, 0x00, 0x00, 0x00, 0x00, 0x00,
@@ -53,14 +53,25 @@ fn counter(weigh: Weigh) -> Counter
     })
 }
 
-fn main(rt: HostRuntime) -> anyhow::Result<()> {
-    let alloc = rt.alloc();
-    let mut words = env::args(&rt)?.skip(1);
-    let (Some(how), Some(turns)) = (words.next(), words.next()) else {
-        bail!("usage: bench_run HOW TURNS");
+/// The steps of a run that two counters watch, their cycles, and the tallies of the counters.
+fn watched(alloc: Global, machine: &mut Machine<'_>) -> anyhow::Result<String> {
+    let mut probes: Vec<Box<dyn Probe>> = Vec::new(alloc);
+    probes.push(Box::new(alloc, counter(Weigh::Steps))?)?;
+    probes.push(Box::new(alloc, counter(Weigh::Misses))?)?;
+    let RunEnd::Returned { steps, cycles } = run(machine, u64::MAX, &mut probes) else {
+        bail!("the run doesn't return");
     };
-    let Ok(turns) = turns.parse::<i32>() else {
-        bail!("bad number of turns");
+    let mut text = format!(in alloc; "{steps} {cycles}")?;
+    for probe in &probes {
+        write!(text, " {}", probe.tally())?;
+    }
+    Ok(text)
+}
+
+/// The steps and their cycles, and the tallies of the counters.
+pub(crate) fn done(alloc: Global, words: &[String]) -> anyhow::Result<String> {
+    let Ok(turns) = word(words, 2).parse::<i32>() else {
+        bail!("no number of turns");
     };
     let image = read_image(alloc, &FILE)?;
     let timing = Timing::unit();
@@ -69,20 +80,12 @@ fn main(rt: HostRuntime) -> anyhow::Result<()> {
         value: turns,
     }];
     let mut machine = Machine::start(alloc, &image, &timing, 0x8000, 0x2000_0000, 4096, &values)?;
-    if how.as_str() == "bare" {
-        let (steps, cycles) = bare(&mut machine)?;
-        println!(rt; "{steps} {cycles}")?;
-        return Ok(());
+    match word(words, 1) {
+        "bare" => {
+            let (steps, cycles) = bare(&mut machine)?;
+            Ok(format!(in alloc; "{steps} {cycles}")?)
+        }
+        "probes" => watched(alloc, &mut machine),
+        _ => bail!("no such run"),
     }
-    let mut probes: Vec<Box<dyn Probe>> = Vec::new(alloc);
-    probes.push(Box::new(alloc, counter(Weigh::Steps))?)?;
-    probes.push(Box::new(alloc, counter(Weigh::Misses))?)?;
-    let RunEnd::Returned { steps, cycles } = run(&mut machine, u64::MAX, &mut probes) else {
-        bail!("the run doesn't return");
-    };
-    println!(rt; "{steps} {cycles}")?;
-    for probe in &probes {
-        println!(rt; "{}", probe.tally())?;
-    }
-    Ok(())
 }

@@ -1,24 +1,17 @@
-//! Decodes 16 MiB of code again and again: `bench_decode decode FILE TIMES`, the words of a file, repeated up
-//! to that size. `bench_decode add FILE TIMES` adds the same words up instead, as a plain loop to compare with.
-//!
-//! What is printed, the number of decoded instructions or the sum, keeps the work from being left out; a
-//! script takes the time.
-#![tactic(auto)]
+//! 16 MiB of code decoded: `decode decode FILE TIMES`, the words of a file, repeated up to that size, and how often all
+//! of them are decoded. `decode add FILE TIMES` adds the same words up instead, as a plain loop to compare with. The
+//! result is the number of decoded instructions or the sum.
 
+use crate::words::{file, small_number, word};
 use anyhow::bail;
 use arm_isa::{Insn, decode};
 use std::alloc::{AllocError, Global};
-use std::env;
-use wsym_io::{FileShelf, Shelf};
 
 /// The words in 16 MiB.
 const WORDS: usize = 4 << 20;
 
 /// The words that are decoded into one list.
 const BLOCK: usize = 4096;
-
-/// The greatest length of a file, in bytes.
-const LONGEST: u64 = 67_108_864;
 
 /// The words of some bytes, least significant byte first, repeated up to 16 MiB. None where there are fewer
 /// than four bytes.
@@ -67,27 +60,18 @@ fn add(words: &[u32], times: u32) -> u64 {
     sum
 }
 
-fn main(rt: HostRuntime) -> anyhow::Result<()> {
+/// The number of instructions, or the sum.
+pub(crate) fn done(rt: HostRuntime, words: &[String]) -> anyhow::Result<String> {
     let alloc = rt.alloc();
-    let mut given = env::args(&rt)?.skip(1);
-    let (Some(work), Some(file), Some(times)) = (given.next(), given.next(), given.next()) else {
-        bail!("usage: bench_decode decode|add FILE TIMES");
-    };
-    let Ok(times) = times.parse::<u32>() else {
-        bail!("bad number of times");
-    };
-    let mut shelf = FileShelf::new(&rt);
-    let Ok(bytes) = shelf.read_all(alloc, &file, LONGEST) else {
-        bail!("the file can't be read");
-    };
-    let Some(words) = words_of(alloc, bytes.as_slice())? else {
+    let times = small_number(words, 3)?;
+    let bytes = file(rt, word(words, 2))?;
+    let Some(code) = words_of(alloc, bytes.as_slice())? else {
         bail!("the file has no word");
     };
-    let result = if work.as_str() == "add" {
-        add(words.as_slice(), times)
+    let result = if word(words, 1) == "add" {
+        add(code.as_slice(), times)
     } else {
-        count(alloc, words.as_slice(), times)?
+        count(alloc, code.as_slice(), times)?
     };
-    println!(rt; "{result}")?;
-    Ok(())
+    Ok(format!(in alloc; "{result}")?)
 }

@@ -1,17 +1,15 @@
-//! Asks again and again whether difference rows entail one: `bench_farkas ROWS VARS TIMES`, the rows of a set,
-//! the variables that they speak of, and how many sets are made.
+//! Whether difference rows entail one: `entails ROWS VARS TIMES`, the rows of a set, the variables that they speak of,
+//! and how many sets are made.
 //!
 //! The rows are `a - b <= c` for two of the variables, or `a <= c` and `-a <= c`, chosen by a fixed sequence of
-//! numbers. What is printed, how many answers of each kind there were, keeps the work from being left out; a
-//! script takes the time.
-#![tactic(auto)]
+//! numbers. The result is how many answers of each kind there are.
 
+use crate::words::{number, small_number};
 use anyhow::bail;
 use farkas::{Answer, entails};
 use linear_rows::{Form, Row, RowTerm, Var};
 use sqlite_items::Items;
 use std::alloc::Global;
-use std::env;
 
 /// The next number of the sequence.
 fn next(state: u64) -> u64 {
@@ -59,7 +57,7 @@ fn row(alloc: Global, state: &mut u64, vars: u64) -> anyhow::Result<Row> {
 }
 
 /// How many answers of each kind there were.
-#[derive(Clone, Copy, Debug)]
+#[derive(Clone, Copy)]
 struct Counts {
     proved: u32,
     refuted: u32,
@@ -87,21 +85,11 @@ fn ask(
     Ok(())
 }
 
-fn main(rt: HostRuntime) -> anyhow::Result<()> {
-    let alloc = rt.alloc();
-    let mut words = env::args(&rt)?.skip(1);
-    let (Some(rows), Some(vars), Some(times)) = (words.next(), words.next(), words.next()) else {
-        bail!("usage: bench_farkas ROWS VARS TIMES");
-    };
-    let Ok(rows) = rows.parse::<u64>() else {
-        bail!("bad number of rows");
-    };
-    let Ok(vars) = vars.parse::<u32>() else {
-        bail!("bad number of variables");
-    };
-    let Ok(times) = times.parse::<u32>() else {
-        bail!("bad number of times");
-    };
+/// How many answers of each kind there are.
+pub(crate) fn done(alloc: Global, words: &[String]) -> anyhow::Result<String> {
+    let rows = number(words, 1)?;
+    let vars = u64::from(small_number(words, 2)?);
+    let times = small_number(words, 3)?;
     let mut counts = Counts {
         proved: 0,
         refuted: 0,
@@ -109,11 +97,12 @@ fn main(rt: HostRuntime) -> anyhow::Result<()> {
     };
     let mut state = 1;
     for _ in 0..times {
-        ask(alloc, &mut state, rows, u64::from(vars), &mut counts)?;
+        ask(alloc, &mut state, rows, vars, &mut counts)?;
     }
-    println!(rt;
-        "proved {} refuted {} beyond {}",
-        counts.proved, counts.refuted, counts.beyond
-    )?;
-    Ok(())
+    let Counts {
+        proved,
+        refuted,
+        beyond,
+    } = counts;
+    Ok(format!(in alloc; "proved {proved} refuted {refuted} beyond {beyond}")?)
 }

@@ -1,18 +1,11 @@
-//! Makes a list of costs with so many runs, and adds it to itself, merges it with itself or groups its places
-//! so many times, as each line of standard input says. It prints how many places the last result has before
-//! its tail. Each run has one place, or twice as many for each doubling that a fourth word asks for.
-//! `bench/multisets` takes the time.
-//!
-//! ```text
-//! plus 1000 10
-//! group 1000 10 20
-//! ```
-#![tactic(auto)]
+//! Sums, unions and groups of a list of costs: `multisets plus 1000 10 0` adds a list of 1,000 runs to itself ten
+//! times. Each run has one place, or twice as many for each doubling. The result is the number of places that the last
+//! list has before its tail.
 
+use crate::words::{number, word};
 use cost_multiset::{Multi, Run};
 use sqlite_items::Items;
 use std::alloc::{AllocError, Global};
-use std::io;
 use wsym_terms::Cost;
 
 /// How many places a group has.
@@ -77,7 +70,7 @@ fn called(alloc: Global, call: &str, list: &Multi) -> Result<Multi, AllocError> 
     }
 }
 
-/// The list with twice as many places in each run, so many times over.
+/// The list after some doublings, each of which gives each run twice as many places.
 fn widened(alloc: Global, list: Multi, doublings: u64) -> Result<Multi, AllocError> {
     let mut wide = list;
     for _ in 0..doublings {
@@ -86,31 +79,15 @@ fn widened(alloc: Global, list: Multi, doublings: u64) -> Result<Multi, AllocErr
     Ok(wide)
 }
 
-/// What stands in a line, as `plus 1000 10` or `group 1000 10 20`: the call, how many runs, how many times, and
-/// how often the places of each run are doubled.
-fn done(alloc: Global, line: &str) -> Result<u64, AllocError> {
-    let mut words = line.split(' ');
-    let call = words.next().unwrap_or("");
-    let runs = number(words.next());
-    let times = number(words.next());
-    let doublings = number(words.next());
-    let list = widened(alloc, stairs(alloc, runs)?, doublings)?;
+/// The number of places of the last result.
+pub(crate) fn done(alloc: Global, words: &[String]) -> anyhow::Result<String> {
+    let call = word(words, 1);
+    let runs = number(words, 2)?;
+    let times = number(words, 3)?;
+    let list = widened(alloc, stairs(alloc, runs)?, number(words, 4)?)?;
     let mut length = list.length();
     for _ in 0..times {
         length = called(alloc, call, &list)?.length();
     }
-    Ok(length)
-}
-
-/// The number that a word spells, or 0.
-fn number(word: Option<&str>) -> u64 {
-    word.map_or(0, |word| word.parse::<u64>().unwrap_or(0))
-}
-
-fn main(rt: HostRuntime) -> io::Result<()> {
-    for line in rt.lines(rt.alloc()) {
-        let length = done(rt.alloc(), line?.as_str())?;
-        println!(rt; "{length}")?;
-    }
-    Ok(())
+    Ok(format!(in alloc; "{length}")?)
 }
