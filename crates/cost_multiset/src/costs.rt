@@ -14,7 +14,7 @@ use std::marker::Model;
 use wsym_terms::Cost;
 
 /// So many equal costs in a row.
-#[derive(Clone, Copy, Debug, PartialEq, Eq)]
+#[derive(Clone, Copy)]
 pub struct Run {
     /// The cost, in cycles.
     pub value: Cost,
@@ -24,7 +24,7 @@ pub struct Run {
 
 /// A list of costs that descends and goes on for ever: some runs, then one cost again and again. Contracts
 /// see its runs and its tail.
-#[derive(Debug, Drop)]
+#[derive(Drop)]
 pub struct Multi {
     runs: Items<Run>,
     tail: Cost,

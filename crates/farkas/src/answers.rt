@@ -3,7 +3,7 @@ use row_elimination::Multiplier;
 use sqlite_items::Items;
 
 /// A fraction for each of some variables, over one divisor. Every other variable has 0.
-#[derive(Debug, Drop)]
+#[derive(Drop)]
 pub struct RationalPoint {
     /// The variables, none twice.
     pub vars: Items<Var>,
@@ -14,7 +14,7 @@ pub struct RationalPoint {
 }
 
 /// Whether rows entail a row.
-#[derive(Debug, Drop)]
+#[derive(Drop)]
 pub enum Answer {
     /// They do. The sum of the multiplied rows, divided by the divisor, has the row's left side and a
     /// constant that is at most the row's; or it has no terms and a negative constant.
@@ -31,7 +31,7 @@ pub enum Answer {
 }
 
 /// Whether rows have no rational point.
-#[derive(Debug, Drop)]
+#[derive(Drop)]
 pub enum Emptiness {
     /// They have none. The sum of the multiplied rows has no terms and a negative constant.
     Empty {

@@ -10,7 +10,7 @@ ghost use Rattle.farkas.specs.declared.answers.Answer.TheVariants.{Proved};
 use crate::answers::{Answer, Emptiness, RationalPoint};
 use crate::placing::{Level, Limit, Placed, negated, raise};
 use linear_rows::fit;
-use row_elimination::{Derived, Support, product};
+use row_elimination::{Derived, Support, product_below_limit};
 use sqlite_items::Items;
 use std::alloc::{AllocError, Global};
 
@@ -202,7 +202,7 @@ fn prove_by(alloc: Global, row: &Derived, multiple: u128) -> Result<Option<Answe
         (λ a. a ≡ Proved row.now.support.multipliers (row.now.support.divisor * multiple))) }
 {
     let support = row.support();
-    match product(support.divisor, multiple) {
+    match product_below_limit(support.divisor, multiple) {
         Some(divisor) => Ok(Some(Answer::Proved {
             multipliers: Items::from_slice(alloc, support.multipliers.as_slice())?,
             divisor,

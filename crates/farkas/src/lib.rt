@@ -17,8 +17,6 @@ mod entailment;
 mod laws;
 mod placing;
 mod runs;
-#[cfg(test)]
-mod tests;
 
 pub use answers::{Answer, Emptiness, RationalPoint};
 pub use entailment::{empty, entails};

@@ -4,14 +4,16 @@ ghost use Rattle.linear_rows.specs.NormalForm.{floor, gcd};
 ghost use Rattle.farkas.specs.Points.{number_of};
 ghost use Rattle.farkas.specs.Placing.{slack_from, slack_fits_from, slack_of, slack_fits, limit_of, is_less, lesser, limits, least_limit, limits_fit, scaled_numbers, numbers_fit, extended, extended_fits, common_number, point_divisor, divided_numbers, lowest_point, from_below, from_above, fits_below, fits_above, chosen, chosen_fits, with_number, number_fits, raised, raised_fits};
 
-use linear_rows::{RowTerm, Var, Weight, fit, greatest_common_divisor, order, product, quotient};
+use linear_rows::{
+    RowTerm, Var, Weight, fit, greatest_common_divisor, order, quotient, weigh_number,
+};
 use row_elimination::Derived;
 use sqlite_items::Items;
 use std::alloc::{AllocError, Global};
 use std::cmp::Ordering;
 
 /// A point that gives numbers to some variables and to the last one, over one divisor.
-#[derive(Debug, Drop)]
+#[derive(Drop)]
 pub(crate) struct Placed {
     /// The variables.
     pub(crate) vars: Items<Var>,
@@ -33,7 +35,7 @@ pub(crate) struct Limit {
 }
 
 /// A step of a run: the variable with the rows that mentioned it.
-#[derive(Debug, Drop)]
+#[derive(Drop)]
 pub(crate) struct Level {
     /// The variable.
     pub(crate) var: Var,
@@ -216,7 +218,7 @@ fn lesser_of(least: Option<Limit>, limit: Limit) -> Limit
 fn multiple(by: u128, number: &i128) -> Option<i128>
     ensures { MatchOption result (is_small (pos by *ℤ number.now) ≡ false) (λ z. (z ≡ pos by *ℤ number.now) × (is_small (pos by *ℤ number.now) ≡ true)) }
 {
-    product(Weight::times(by), *number)
+    weigh_number(Weight::times(by), *number)
 }
 
 /// A number, and behind it the multiples of others. None where one passes the limit.

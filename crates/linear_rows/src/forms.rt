@@ -10,7 +10,7 @@ use std::cmp::Ordering;
 ///
 /// The calls that take a form need its terms in ascending order of their variables, none twice, and no
 /// factor 0. The numbers may be any.
-#[derive(Debug, Drop)]
+#[derive(Drop)]
 pub struct Form {
     /// What is added up.
     pub terms: Items<RowTerm>,
@@ -47,7 +47,7 @@ fn comes_before(term: &RowTerm, rest: &[RowTerm]) -> bool
 }
 
 /// By how much a register or word changes in one turn of a loop.
-#[derive(Clone, Copy, Debug, PartialEq, Eq)]
+#[derive(Clone, Copy)]
 pub struct NetChange {
     /// What changes.
     pub var: Var,
@@ -56,7 +56,7 @@ pub struct NetChange {
 }
 
 /// The rows that hold whenever a closing edge of a loop is taken, before it is counted.
-#[derive(Debug, Drop)]
+#[derive(Drop)]
 pub struct ClosingRows {
     /// The number of the loop's first block, to which the edge leads.
     pub header: u32,
@@ -67,7 +67,7 @@ pub struct ClosingRows {
 }
 
 /// The two numbers, as forms, that an instruction has compared.
-#[derive(Debug, Drop)]
+#[derive(Drop)]
 pub struct Test {
     /// What was compared.
     pub left: Form,

@@ -18,8 +18,6 @@ mod laws;
 mod lowest;
 mod rows;
 mod term_list;
-#[cfg(test)]
-mod tests;
 mod weighing;
 
 pub use forms::{ClosingRows, Form, NetChange, Test};
@@ -31,4 +29,4 @@ pub use laws::{
 pub use lowest::{greatest_common_divisor, quotient};
 pub use rows::{Row, RowTerm, Var};
 pub use term_list::Terms;
-pub use weighing::{Weight, factor, fit, order, product, weigh, weigh_constants};
+pub use weighing::{Weight, factor, fit, order, weigh, weigh_constants, weigh_number};

@@ -8,7 +8,7 @@ use std::alloc::{AllocError, Global};
 use std::marker::Model;
 
 /// What a row speaks of, in the order in which its terms stand.
-#[derive(Clone, Copy, Debug, PartialEq, Eq, PartialOrd, Ord)]
+#[derive(Clone, Copy, PartialEq, Eq, PartialOrd, Ord)]
 pub enum Var {
     /// Register 0 to 14, as a signed number.
     Register(u8),
@@ -34,7 +34,7 @@ impl Default for Var {
 }
 
 /// A variable times a factor.
-#[derive(Clone, Copy, Debug, Default, PartialEq, Eq)]
+#[derive(Clone, Copy, Default)]
 pub struct RowTerm {
     /// What is multiplied.
     pub var: Var,
@@ -46,7 +46,7 @@ pub struct RowTerm {
 ///
 /// The variables ascend, no factor is 0, the factors have no common divisor, and the magnitudes of the
 /// numbers are at most 2^90. Up to four terms take no memory.
-#[derive(Debug, Drop)]
+#[derive(Drop)]
 pub struct Row {
     terms: Terms,
     constant: i128,

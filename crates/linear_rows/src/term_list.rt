@@ -4,7 +4,7 @@ use std::alloc::{AllocError, Global};
 use std::marker::Model;
 
 /// A list of terms. Up to four stand in the value itself, and take no memory.
-#[derive(Debug, Drop)]
+#[derive(Drop)]
 pub struct Terms {
     kept: SmallVec<RowTerm, 4>,
 }
@@ -19,7 +19,7 @@ impl Model for Terms {
 }
 
 impl Terms {
-    ghost use Rattle.std.specs.Prelude.{◌≡◌, [], ◌∷◌, ◌++◌, OnOk};
+    ghost use Rattle.std.specs.Prelude.{◌≡◌, [], ◌∷◌, ◌++◌, OnErr, OnOk};
 
     /// No terms.
     pub fn new(alloc: Global) -> Terms
@@ -30,9 +30,10 @@ impl Terms {
         }
     }
 
-    /// Adds a term at the end.
+    /// Adds a term at the end. Where memory is refused, the list stays as it was.
     pub fn push(&mut self, term: RowTerm) -> Result<(), AllocError>
-        ensures { OnOk result (self.new ≡ self.old ++ term ∷ []) }
+        ensures added { OnOk result (self.new ≡ self.old ++ term ∷ []) }
+        ensures unchanged { OnErr result (self.new ≡ self.old) }
     {
         self.kept.push(term)?;
         Ok(())

@@ -58,8 +58,8 @@ fn with_sign(is_negative: bool, magnitude: u128) -> Option<i128>
     }
 }
 
-/// The product, where its magnitude is below 2^127.
-pub fn product(weight: Weight, number: i128) -> Option<i128>
+/// A number times a weight, where the product has a magnitude below 2^127.
+pub fn weigh_number(weight: Weight, number: i128) -> Option<i128>
     ensures { result ≡ small (signed weight.is_negative weight.magnitude *ℤ number) }
 {
     let magnitude = number.unsigned_abs().checked_mul(weight.magnitude)?;
@@ -88,7 +88,7 @@ fn sum(first: i128, second: i128) -> Option<i128>
 pub fn weigh_constants(a: Weight, first: i128, b: Weight, second: i128) -> Option<i128>
     ensures { result ≡ weighted_constant_within (signed a.is_negative a.magnitude) first (signed b.is_negative b.magnitude) second }
 {
-    sum(product(a, first)?, product(b, second)?)
+    sum(weigh_number(a, first)?, weigh_number(b, second)?)
 }
 
 /// Adds a term at the end, unless its factor is 0.
@@ -134,26 +134,26 @@ fn first_term<'a>(xs: &'a [RowTerm], a: Weight, ys: &'a [RowTerm], b: Weight) ->
         (None, None) => None,
         (Some((x, left)), None) => Some(First {
             var: x.var,
-            factor: product(a, x.factor),
+            factor: weigh_number(a, x.factor),
             left,
             right: ys,
         }),
         (None, Some((y, right))) => Some(First {
             var: y.var,
-            factor: product(b, y.factor),
+            factor: weigh_number(b, y.factor),
             left: xs,
             right,
         }),
         (Some((x, left)), Some((y, right))) => match order(&x.var, &y.var) {
             Ordering::Less => Some(First {
                 var: x.var,
-                factor: product(a, x.factor),
+                factor: weigh_number(a, x.factor),
                 left,
                 right: ys,
             }),
             Ordering::Greater => Some(First {
                 var: y.var,
-                factor: product(b, y.factor),
+                factor: weigh_number(b, y.factor),
                 left: xs,
                 right,
             }),

@@ -5,7 +5,7 @@ use wsym_formula::Term;
 use wsym_terms::{Bound, ParamRange, Tree};
 
 /// A basic block of the report; its number is its place in the report's list.
-#[derive(Debug, Drop)]
+#[derive(Drop)]
 pub struct ReportBlock {
     /// The address of its first instruction.
     pub address: u32,
@@ -16,7 +16,7 @@ pub struct ReportBlock {
 }
 
 /// A loop of the report; its number, from 1, is its place in the report's list plus 1.
-#[derive(Debug, Drop)]
+#[derive(Drop)]
 pub struct ReportLoop {
     /// The number of its header block.
     pub header: u32,
@@ -27,7 +27,7 @@ pub struct ReportLoop {
 }
 
 /// An inequality that holds whenever a run is at the first instruction of a block.
-#[derive(Debug, Drop)]
+#[derive(Drop)]
 pub struct ReportRow {
     /// The number of the block.
     pub block: u32,
@@ -36,7 +36,7 @@ pub struct ReportRow {
 }
 
 /// What an analysis says of a function.
-#[derive(Debug, Drop)]
+#[derive(Drop)]
 pub struct Report {
     /// The address of the function.
     pub entry: u32,

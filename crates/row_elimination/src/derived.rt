@@ -18,7 +18,7 @@ use std::marker::Model;
 
 /// A row derived from given ones: terms, plus a multiple of one more variable, the last, are at most a
 /// constant. The last variable stands for the left side of a row that is tested.
-#[derive(Debug, Drop)]
+#[derive(Drop)]
 pub struct Derived {
     terms: Terms,
     last: i128,
@@ -89,14 +89,16 @@ impl Derived {
         })
     }
 
-    /// The combination with another row that has no more the variable. None exactly where a number of which it
-    /// is made has a magnitude of 2^127 or more.
+    /// The combination with another row that has no more the variable, of which this row has a positive factor and
+    /// the other a negative one. None exactly where a number of which it is made has a magnitude of 2^127 or more.
     pub fn combine(
         &self,
         alloc: Global,
         var: &Var,
         other: &Derived,
     ) -> Result<Option<Derived>, AllocError>
+        requires positive { has_positive var.now self.now ≡ true }
+        requires negative { has_negative var.now other.now ≡ true }
         ensures { IfOk result (λ o. MatchOption o (combination_fits var.now self.now other.now ≡ false) (λ d. (combination_fits var.now self.now other.now ≡ true) × (d ≡ combination var.now self.now other.now))) }
     {
         let a = other.size(var);

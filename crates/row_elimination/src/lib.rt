@@ -9,10 +9,8 @@
 
 mod derived;
 mod steps;
-#[cfg(test)]
-mod tests;
 mod weights;
 
 pub use derived::{Derived, are_same};
 pub use steps::{Equality, Step, eliminate};
-pub use weights::{Multiplier, Support, product};
+pub use weights::{Multiplier, Support, product_below_limit};

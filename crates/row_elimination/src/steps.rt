@@ -150,6 +150,8 @@ fn combine_two(
     other: &Derived,
     kept: &mut Vec<Derived>,
 ) -> Result<bool, AllocError>
+    requires positive { has_positive var.now row.now ≡ true }
+    requires negative { has_negative var.now other.now ≡ true }
     ensures { IfOk result (λ b. MatchBool b ((combination_fits var.now row.now other.now ≡ true) × (kept.new.items ≡ with_one kept.old.items (combination var.now row.now other.now))) (combination_fits var.now row.now other.now ≡ false)) }
 {
     match row.combine(alloc, var, other)? {
@@ -173,7 +175,8 @@ fn combine_one(
     kept: &mut Vec<Derived>,
     count: usize,
 ) -> Result<Option<usize>, AllocError>
-    requires { count ≤ 4096 }
+    requires few { count ≤ 4096 }
+    requires positive { has_positive var.now row.now ≡ true }
     ensures { IfOk result (λ o. MatchOption o
         ((matches_fit var.now (matches_of var.now equality place row.now 0 rows.now) && nat_le (count + length (matches_of var.now equality place row.now 0 rows.now)) 4096) ≡ false)
         (λ n. (matches_fit var.now (matches_of var.now equality place row.now 0 rows.now) ≡ true) × (n ≡ count + length (matches_of var.now equality place row.now 0 rows.now)) × (n ≤ 4096)

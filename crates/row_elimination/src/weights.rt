@@ -9,7 +9,7 @@ use std::alloc::{AllocError, Global};
 const LIMIT: u128 = 1 << 127;
 
 /// A row of a list, and how often it is taken.
-#[derive(Clone, Copy, Debug, PartialEq, Eq)]
+#[derive(Clone, Copy)]
 pub struct Multiplier {
     /// The place of the row in the list, from 0 on.
     pub row: u64,
@@ -18,7 +18,7 @@ pub struct Multiplier {
 }
 
 /// How a derived row follows from the given ones: the sum of the multiplied rows, divided by the divisor.
-#[derive(Debug, Drop)]
+#[derive(Drop)]
 pub struct Support {
     /// The rows of the sum, in ascending order.
     pub multipliers: Items<Multiplier>,
@@ -26,8 +26,8 @@ pub struct Support {
     pub divisor: u128,
 }
 
-/// The product, where it is below the limit.
-pub fn product(first: u128, second: u128) -> Option<u128>
+/// The product of two multipliers or divisors, where it is below 2^127.
+pub fn product_below_limit(first: u128, second: u128) -> Option<u128>
     ensures { result ≡ (if is_below (first * second) then Some (first * second) else None) }
 {
     let product = first.checked_mul(second)?;
@@ -52,7 +52,7 @@ fn scale(
 {
     let mut out = Vec::new(alloc);
     for multiplier in multipliers {
-        let Some(factor) = product(by, multiplier.factor) else {
+        let Some(factor) = product_below_limit(by, multiplier.factor) else {
             return Ok(None);
         };
         out.push(Multiplier {
@@ -129,7 +129,7 @@ fn weigh(
         return Ok(None);
     };
     for multiplier in first {
-        let Some(factor) = product(a, multiplier.factor) else {
+        let Some(factor) = product_below_limit(a, multiplier.factor) else {
             return Ok(None);
         };
         let row = multiplier.row;
@@ -195,8 +195,10 @@ impl Support {
     ) -> Result<Option<Support>, AllocError>
         ensures { IfOk result (λ o. MatchOption o (supports_fit a self.now b other.now g ≡ false) (λ s. (supports_fit a self.now b other.now g ≡ true) × (s ≡ combined_support a self.now b other.now g))) }
     {
-        let (Some(first), Some(second)) = (product(a, other.divisor), product(b, self.divisor))
-        else {
+        let (Some(first), Some(second)) = (
+            product_below_limit(a, other.divisor),
+            product_below_limit(b, self.divisor),
+        ) else {
             return Ok(None);
         };
         let mine = self.multipliers.as_slice();
@@ -204,10 +206,10 @@ impl Support {
         let Some(sum) = weigh(alloc, mine, first, theirs, second)? else {
             return Ok(None);
         };
-        let Some(both) = product(self.divisor, other.divisor) else {
+        let Some(both) = product_below_limit(self.divisor, other.divisor) else {
             return Ok(None);
         };
-        let Some(divisor) = product(both, g) else {
+        let Some(divisor) = product_below_limit(both, g) else {
             return Ok(None);
         };
         Ok(Some(lowest(alloc, sum, divisor)?))

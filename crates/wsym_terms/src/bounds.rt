@@ -10,7 +10,7 @@ use sqlite_items::Items;
 
 /// A parameter of a report: the register that holds it when the function is entered, and the range of its
 /// values, read as signed numbers.
-#[derive(Debug, Drop)]
+#[derive(Drop)]
 pub struct ParamRange {
     /// The name under which the formula speaks of it.
     pub name: Name,
@@ -23,7 +23,7 @@ pub struct ParamRange {
 }
 
 /// A parameter, by its place in the report's list, times a factor.
-#[derive(Clone, Copy, Debug, PartialEq, Eq)]
+#[derive(Clone, Copy)]
 pub struct Coef {
     /// The parameter's place, from 0.
     pub param: u32,
@@ -33,7 +33,7 @@ pub struct Coef {
 
 /// One upper bound of the times that a loop closes: `max(0, floor((a·p + b) / d) + 1)`, with the factors
 /// `a` of the parameters `p`, the constant `b` and the divisor `d`.
-#[derive(Debug, Drop)]
+#[derive(Drop)]
 pub struct Atom {
     /// The parameters with their factors, in ascending order of parameters.
     pub coefs: Items<Coef>,
@@ -45,7 +45,7 @@ pub struct Atom {
 
 /// How often a loop closes for each time that it is entered: at most the least value of the atoms. Without
 /// atoms no bound is known.
-#[derive(Debug, Drop)]
+#[derive(Drop)]
 pub struct Bound {
     /// The atoms, each an upper bound of its own.
     pub atoms: Items<Atom>,

@@ -15,8 +15,6 @@
 mod bounds;
 mod costs;
 mod names;
-#[cfg(test)]
-mod tests;
 mod trees;
 
 pub use bounds::{Atom, Bound, Coef, ParamRange};

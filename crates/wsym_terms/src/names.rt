@@ -4,7 +4,7 @@ use std::marker::Model;
 
 /// The name of a parameter: an ASCII letter followed by at most 15 letters, digits or `_`. Contracts see
 /// it as the list of its bytes.
-#[derive(Debug, Drop)]
+#[derive(Drop)]
 pub struct Name {
     text: String,
 }

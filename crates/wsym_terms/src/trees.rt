@@ -6,7 +6,7 @@ ghost use Rattle.wsym_terms.specs.declared.trees.Tree.{Tree as TreeValue};
 use sqlite_items::{Boxed, Items};
 
 /// A use of a line of the instruction cache.
-#[derive(Clone, Copy, Debug, PartialEq, Eq)]
+#[derive(Clone, Copy)]
 pub struct Use {
     /// The line: the address divided by the bytes of a line.
     pub line: u32,
@@ -15,7 +15,7 @@ pub struct Use {
 }
 
 /// The control-flow tree of a function.
-#[derive(Debug, Drop)]
+#[derive(Drop)]
 pub enum Tree {
     /// A basic block: its number, what its instructions cost in cycles where no fetch misses, and the lines
     /// that it uses.
