@@ -1,17 +1,16 @@
 -- Faults and ways of a point, histories and walks.
-use Rattle.std.proofs.Common.{◌≡◌, ℕ, zero, suc, Bool, true, false, cond, Contains, Option, Some, None, Result, Ok, Err, option_and_then}
-use Rattle.std.proofs.Common.{List, [], ◌∷◌, refl, sym, ap, ◌∙◌, subst}
+use Rattle.std.proofs.Common.{◌≡◌, ℕ, zero, suc, Bool, true, false, cond, Option, Some, None, Result, Ok, Err, option_and_then}
+use Rattle.std.proofs.Common.{List, [], ◌∷◌, refl, sym}
 use Rattle.elf32_image.specs.Parts.{ImageValue}
 use Rattle.elf32_image.specs.Bytes.{is_code, word_at}
 use Rattle.arm_isa.specs.declared.instruction.Insn.{Insn}
 use Rattle.arm_isa.specs.Decoding.{decoding}
-use Rattle.control_flow.specs.declared.instructions.FetchFault.{FetchFault}
+use Rattle.control_flow.specs.declared.control.Fault.{Fault}
 use Rattle.control_flow.specs.declared.instructions.FetchFault.TheVariants.{NoCode}
-use Rattle.control_flow.specs.Instructions.{decoded, fetched, instruction_at}
+use Rattle.control_flow.specs.Instructions.{decoded, instruction_at}
 use Rattle.control_flow.specs.Points.{Point, jump_of}
 use Rattle.control_flow.specs.Routes.{Goes, IsHistory, IsReached, Place, Taken, Way}
-use Rattle.control_flow.specs.Routes.Place.{At}
-use Rattle.control_flow.specs.Ways.{Fault, done_place, fault_at, fault_in, fault_of, ways_from, ways_of, ways_to}
+use Rattle.control_flow.specs.Ways.{done_place, fault_in, fault_of, ways_of, ways_to}
 use Rattle.graph_search.specs.Walks.{Walk}
 
 no_ways : (p : Point) (insn : Insn) (place : Result (Place Point) Fault) → ways_to p insn place ≡ [] → fault_in place ≡ None → ⊥

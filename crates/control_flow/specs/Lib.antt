@@ -1,3 +1,4 @@
+pub mod Controls
 pub mod Instructions
 pub mod Points
 pub mod Routes

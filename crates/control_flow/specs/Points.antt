@@ -55,15 +55,19 @@ called_by a (Some insn) = call_target a (jump_of insn.op)
 
 -- where the call with this return address goes to
 abbrev pub callee : ImageValue → ℕ → Option ℕ
-callee image r = let a = (r + 2 ^ 32 - 4) % 2 ^ 32 in called_by a (instruction_at image a)
+callee image r = let a = (r + (2 ^ 32 - 4)) % 2 ^ 32 in called_by a (instruction_at image a)
 
 abbrev pub is_address : Option ℕ → ℕ → Bool
 is_address None a = false
 is_address (Some b) a = a == b
 
+-- the address is the entry's, or one to which a call that is open goes
+abbrev pub is_open : (ℕ → ℕ → Bool) → ℕ → List ℕ → ℕ → Bool
+is_open goes entry returns a = (a == entry) || list_any (λ r. goes r a) returns
+
 -- a call of the function itself, or of one that is open
 abbrev pub is_recursion : ImageValue → ℕ → List ℕ → ℕ → Bool
-is_recursion image entry returns a = (a == entry) || list_any (λ r. is_address (callee image r) a) returns
+is_recursion image entry returns a = is_open (λ r b. is_address (callee image r) b) entry returns a
 
 abbrev pub is_recursive_call : ImageValue → ℕ → Point → Jump → Bool
 is_recursive_call image entry p jump = jump.link && is_recursion image entry p.returns (target p.address jump.words)

@@ -1,25 +1,21 @@
 -- Where control may go from a point of a function, and why it can't be followed there.
-use Rattle.std.specs.Prelude.{◌≡◌, ℕ, ◌++◌, true, false, if◌then◌else◌, Option, Some, None, Result, Ok, Err, List, [], ◌∷◌, map}
+use Rattle.std.specs.Prelude.{◌≡◌, ℕ, ◌++◌, true, false, if◌then◌else◌, Option, Some, None, Result, Ok, Err, List, []}
+use Rattle.std.specs.Prelude.{◌∷◌, map}
 use Rattle.elf32_image.specs.Parts.{ImageValue}
 use Rattle.elf32_image.specs.Bytes.{is_code}
 use Rattle.arm_isa.specs.declared.instruction.Insn.{Insn}
 use Rattle.arm_isa.specs.Conditions.{is_always}
 use Rattle.arm_isa.specs.Writes.{writes_register, is_return_form}
+use Rattle.control_flow.specs.declared.control.Fault.{Fault}
+use Rattle.control_flow.specs.declared.control.Fault.TheVariants.{Outside, Unknown, Indirect, Recursive}
 use Rattle.control_flow.specs.declared.instructions.FetchFault.{FetchFault}
 use Rattle.control_flow.specs.declared.instructions.FetchFault.TheVariants.{NoCode, BadWord}
 use Rattle.control_flow.specs.Instructions.{fetched, instruction_at}
-use Rattle.control_flow.specs.Points.{Jump, Point, entry_point, is_recursive_call, jump_of, last_return, next_address, target}
+use Rattle.control_flow.specs.Points.{Jump, Point, entry_point, is_recursive_call, jump_of, last_return, next_address}
+use Rattle.control_flow.specs.Points.{target}
 use Rattle.control_flow.specs.Points.{without_last}
 use Rattle.control_flow.specs.Routes.{IsReached, Place, Way}
 use Rattle.control_flow.specs.Routes.Place.{At, Exit}
-
--- Why control can't be followed from a point: the address isn't code, the word there has no decoding, the instruction writes
--- r15 and is neither a branch nor a return, or it calls the function itself or one that is open.
-pub data Fault : Type 0 where
-  Outside : Fault
-  Unknown : Fault
-  Indirect : Fault
-  Recursive : Fault
 
 -- a branch leads to its target, a call with one more return address
 abbrev pub jump_place : Point → Jump → Place Point
@@ -38,7 +34,8 @@ return_place (Some r) returns = At (record { returns = without_last returns; add
 
 -- where a done instruction leads
 abbrev pub done_place : ImageValue → ℕ → Point → Insn → Option Jump → Result (Place Point) Fault
-done_place image entry p insn (Some jump) = if is_recursive_call image entry p jump then Err Recursive else Ok (jump_place p jump)
+done_place image entry p insn (Some jump) = if is_recursive_call image entry p jump then Err Recursive else Ok
+    (jump_place p jump)
 done_place image entry p insn None =
     if is_return_form insn then Ok (return_place (last_return p.returns) p.returns)
     else if writes_register insn 15 then Err Indirect
@@ -56,7 +53,8 @@ abbrev pub ways_of : ImageValue → ℕ → Point → Option Insn → List (Way 
 ways_of image entry p None = []
 ways_of image entry p (Some insn) = ways_to p insn (done_place image entry p insn (jump_of insn.op))
 
--- The ways from a point, the done one first. Two ways of an instruction may lead to one place. From a fault there are none.
+-- The ways from a point, the done one first. Two ways of an instruction may lead to one place. From a fault there are
+-- none.
 abbrev pub ways_from : ImageValue → ℕ → Point → List (Way Point)
 ways_from image entry p = ways_of image entry p (instruction_at image p.address)
 
