@@ -1,7 +1,7 @@
 -- What an image holds at an address.
 -- System V ABI, chapter 5, 'Program Header': the bytes of a segment beyond the file's are zeros, and
 -- PF_X and PF_W allow to execute and to write it. Words are of four bytes, least significant first.
-use Rattle.std.specs.Prelude.{ℕ, ◌+◌, ◌*◌, ◌-◌, ◌/◌, ◌%◌, ◌==◌, ◌&&◌, Bool, false, if◌then◌else◌, nat_le, nat_lt, slice_get, unwrap_or, Option, Some, None}
+use Rattle.std.specs.Prelude.{◌≡◌, ℕ, ◌^◌, ◌<◌, ◌+◌, ◌*◌, ◌-◌, ◌/◌, ◌%◌, ◌==◌, ◌&&◌, Bool, false, if◌then◌else◌, nat_le, nat_lt, slice_get, get_or, unwrap_or, List, Option, Some, None}
 use Rattle.std.specs.List.{find}
 use Rattle.elf32_image.specs.Parts.{Segment, ImageValue}
 use Rattle.elf32_image.specs.declared.image.Loaded.{Loaded}
@@ -53,6 +53,10 @@ constant_byte (Writable byte) = None
 abbrev pub byte_at : ImageValue → ℕ → Option ℕ
 byte_at image address = loaded_byte (loaded image address)
 
+-- each byte that the image holds is a number of eight bits
+abbrev pub HoldsBytes : ImageValue → Type 0
+HoldsBytes image = (address byte : ℕ) → byte_at image address ≡ Some byte → byte < 2 ^ 8
+
 -- the byte at the address, where no program can write it
 abbrev pub constant_byte_at : ImageValue → ℕ → Option ℕ
 constant_byte_at image address = constant_byte (loaded image address)
@@ -96,3 +100,7 @@ is_code image address =
 -- the word at an address that is code
 abbrev pub code_at : ImageValue → ℕ → Option ℕ
 code_at image address = if is_code image address then word_at image address else None
+
+-- the numbers of a list are of eight bits, place by place, with 0 past the end
+abbrev pub AreBytes : List ℕ → Type 0
+AreBytes numbers = (place : ℕ) → get_or numbers place 0 < 2 ^ 8

@@ -1,7 +1,7 @@
 //! An image and what it holds at an address.
 
-ghost use Rattle.std.specs.Prelude.{◌≡◌, ◌%◌, IfSome, true};
-ghost use Rattle.elf32_image.specs.Bytes.{code_at, constant_at, constant_byte, is_code, is_executable_at, loaded, loaded_byte, word_at, word_of};
+ghost use Rattle.std.specs.Prelude.{◌≡◌, ◌%◌, ◌^◌, ◌<◌, ℕ, IfSome, Some, true};
+ghost use Rattle.elf32_image.specs.Bytes.{AreBytes, HoldsBytes, code_at, constant_at, constant_byte, is_code, is_executable_at, loaded, loaded_byte, word_at, word_of};
 ghost use Rattle.elf32_image.specs.Index.{HasWord, IsIndex, ascend};
 ghost use Rattle.elf32_image.specs.Names.{function_of};
 ghost use Rattle.elf32_image.specs.Segments.{image_with};
@@ -150,7 +150,8 @@ impl Image {
     /// multiple of 4 or one of the four bytes is not loaded.
     #[inline]
     pub fn word_at(&self, address: u32) -> Option<u32>
-        ensures { result ≡ word_at self.now address }
+        ensures exact { result ≡ word_at self.now address }
+        ensures word { IfSome result (λ word. word < 2 ^ 32) }
     {
         if address % 4 != 0 {
             return None;
@@ -165,7 +166,8 @@ impl Image {
     /// the four bytes is in a segment that may be written.
     #[inline]
     pub fn constant_at(&self, address: u32) -> Option<u32>
-        ensures { result ≡ constant_at self.now address }
+        ensures exact { result ≡ constant_at self.now address }
+        ensures word { IfSome result (λ word. word < 2 ^ 32) }
     {
         if address % 4 != 0 {
             return None;
@@ -197,6 +199,16 @@ impl Image {
                 }
             }
         }
+    }
+
+    /// A law, as a call that does nothing: each byte that the image holds is below 2^8, and so each of its words and
+    /// constants is below 2^32.
+    pub fn holds_bytes(&self)
+        ensures bytes { HoldsBytes self.now }
+        ensures words { (address word : ℕ) → word_at self.now address ≡ Some word → word < 2 ^ 32 }
+        ensures constants { (address word : ℕ) → constant_at self.now address ≡ Some word → word < 2 ^ 32 }
+    {
+        are_bytes(self.file.as_slice());
     }
 
     // The word at a multiple of 4 whose bytes may be in several segments.
@@ -271,3 +283,8 @@ fn word_of_bytes(
 {
     Some(u32::from_le_bytes([first?, second?, third?, fourth?]))
 }
+
+// A law of bytes: they are numbers below 2^8.
+fn are_bytes(bytes: &[u8])
+    ensures { AreBytes bytes.now }
+{}
