@@ -1,5 +1,5 @@
-use Rattle.machine_probe.proofs.Tallies.{all_ready, ready_next}
-use Rattle.machine_probe.proofs.tests.are_ready.Goals as goal
+use Rattle.top_cases.proofs.Readiness.{all_ready, ready_next}
+use Rattle.top_cases.proofs.probes.are_ready.Goals as goal
 
 pub loop-probe-preserved : goal.loop-probe-preserved
 loop-probe-preserved g c =
