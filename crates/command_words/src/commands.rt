@@ -8,7 +8,7 @@ use crate::places::{Places, Task, read_places};
 use std::alloc::{AllocError, Global};
 
 /// What the words ask for.
-#[derive(Debug, Drop)]
+#[derive(Drop)]
 pub enum Command {
     /// The report of a function.
     Analyse(Task),

@@ -11,8 +11,6 @@ mod laws;
 mod numerals;
 mod options;
 mod places;
-#[cfg(test)]
-mod tests;
 mod word;
 
 pub use commands::{Command, read_command};

@@ -29,7 +29,7 @@ const MOST_STACK: u64 = 1_048_576;
 const MOST_STEPS: u64 = 1_000_000_000_000;
 
 /// How a run starts, and how long it may be.
-#[derive(Debug, Drop)]
+#[derive(Drop)]
 pub struct Setup {
     /// The numbers that registers start with, in the order of the words: registers 0 to 12, each at most once.
     pub values: Items<RegisterValue>,

@@ -11,7 +11,7 @@ use std::alloc::{AllocError, Global};
 const UNIT: &str = "unit";
 
 /// Which cost table and cache geometry costs rest on.
-#[derive(Debug, Drop)]
+#[derive(Drop)]
 pub enum TimingWord {
     /// The built-in table, by the word `unit`.
     UnitTable,
@@ -20,7 +20,7 @@ pub enum TimingWord {
 }
 
 /// Which function is meant.
-#[derive(Debug, Drop)]
+#[derive(Drop)]
 pub enum FunctionWord {
     /// The function at this address, by `0x` with 1 to 8 hexadecimal digits.
     Address(u32),
@@ -29,7 +29,7 @@ pub enum FunctionWord {
 }
 
 /// The function that a command is about.
-#[derive(Debug, Drop)]
+#[derive(Drop)]
 pub struct Task {
     /// The name of the ELF file, without `=`.
     pub elf: Word,

@@ -5,7 +5,7 @@ use std::marker::Model;
 
 /// A word of the command line that is the name of a file, of a symbol or of a parameter. Contracts see it as
 /// the list of its bytes.
-#[derive(Debug, Drop)]
+#[derive(Drop)]
 pub struct Word {
     text: String,
 }

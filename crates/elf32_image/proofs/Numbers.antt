@@ -1,5 +1,5 @@
 -- What an image holds are bytes and words where its file holds bytes.
-use Rattle.std.proofs.Common.{◌≡◌, ℕ, zero, suc, ◌+◌, ◌-◌, ◌*◌, ◌^◌, ◌<◌, Bool, true, false, if◌then◌else◌, List, [], ◌∷◌, map, take, drop, get_or, Option, Some, None, find, refl, sym, ap, ◌∙◌, subst, arith, get_or-drop}
+use Rattle.std.proofs.Common.{◌≡◌, ℕ, zero, suc, ◌+◌, ◌-◌, ◌*◌, ◌^◌, ◌<◌, Bool, true, false, if◌then◌else◌, List, [], ◌∷◌, map, take, drop, Option, Some, None, find, refl, sym, subst, arith, get_or-drop}
 use Rattle.std.proofs.lemmas.Option.{unwrap_or-slice_get}
 use Rattle.elf32_image.specs.Bytes.{AreBytes, HoldsBytes, byte_at, byte_of, constant_at, constant_byte, constant_byte_at, covers, is_writable, loaded, loaded_byte, loaded_in, word_at, word_by, word_of}
 use Rattle.elf32_image.specs.Parts.{Segment, ImageValue}
@@ -31,7 +31,8 @@ small_by_flag : (b : Bool) (n byte : ℕ) → n < 2 ^ 8 → loaded_byte (if b th
 small_by_flag true n byte lt e = let same : n ≡ byte = cc in subst (λ (m : ℕ). m < 2 ^ 8) same lt
 small_by_flag false n byte lt e = let same : n ≡ byte = cc in subst (λ (m : ℕ). m < 2 ^ 8) same lt
 
-small_if : (a : ℕ) (b : Bool) (s : Segment) (o : Option Segment) → byte_of s a < 2 ^ 8 → IsSmallAt a o → IsSmallAt a (if b then Some s else o)
+small_if : (a : ℕ) (b : Bool) (s : Segment) (o : Option Segment) → byte_of s a < 2 ^ 8 → IsSmallAt a o
+    → IsSmallAt a (if b then Some s else o)
 small_if a true s o lt rest = λ byte e. small_by_flag (is_writable s) (byte_of s a) byte lt e
 small_if a false s o lt rest = rest
 
@@ -45,7 +46,8 @@ unfolding image_with
 holds_bytes file header bytes = λ a. small_among file a (loaded_headers file header) bytes
 
 -- words of bytes
-small_word : (o0 o1 o2 o3 : Option ℕ) (w : ℕ) → ((b : ℕ) → o0 ≡ Some b → b < 2 ^ 8) → ((b : ℕ) → o1 ≡ Some b → b < 2 ^ 8) → ((b : ℕ) → o2 ≡ Some b → b < 2 ^ 8)
+small_word : (o0 o1 o2 o3 : Option ℕ) (w : ℕ) → ((b : ℕ) → o0 ≡ Some b → b < 2 ^ 8) → ((b : ℕ) → o1 ≡ Some b → b < 2 ^ 8) → ((b : ℕ)
+    → o2 ≡ Some b → b < 2 ^ 8)
     → ((b : ℕ) → o3 ≡ Some b → b < 2 ^ 8) → word_of o0 o1 o2 o3 ≡ Some w → w < 2 ^ 32
 small_word (Some b0) (Some b1) (Some b2) (Some b3) w h0 h1 h2 h3 e =
     let s0 = h0 b0 refl in

@@ -1,5 +1,5 @@
 -- A line stays in its set while fewer others of the set than its ways are fetched.
-use Rattle.std.proofs.Common.{◌≡◌, ◌≢◌, ◌⊎◌, inl, inr, ℕ, zero, suc, ◌+◌, ◌%◌, ◌<◌, ◌≤◌, Bool, true, false, if◌then◌else◌, eqb, List, [], ◌∷◌, ◌++◌, length, take, refl, sym, ap, ◌∙◌, subst, arith}
+use Rattle.std.proofs.Common.{◌≡◌, ◌≢◌, ◌⊎◌, inl, inr, ℕ, zero, suc, ◌%◌, ◌<◌, ◌≤◌, Bool, true, false, if◌then◌else◌, eqb, List, [], ◌∷◌, ◌++◌, length, take, refl, sym, ap, ◌∙◌, subst, arith}
 use Rattle.std.proofs.Math.Nat.{mod-lt}
 use Rattle.std.proofs.lemmas.Bool.Decides.{nat_tests, eqb_tells}
 use Rattle.std.proofs.lemmas.List.{get_or-set_same, get_or-set_other}
@@ -87,24 +87,29 @@ held_after line (x ∷ xs) ys = grind (arith, nat_tests, held_after line xs ys)
 
 pub costs_nothing : (t : Timing) (sets : List (List ℕ)) (others : List ℕ) (line : ℕ) → StandsIn t sets others line → penalty t sets line ≡ 0
 costs_nothing t sets others line s =
-    let there : holds line (lines_at sets (line % t.sets)) ≡ true = subst (λ (xs : List ℕ). holds line xs ≡ true) (sym s.parts) (held_after line s.newer s.older) in
+    let there : holds line (lines_at sets (line % t.sets)) ≡ true =
+    subst (λ (xs : List ℕ). holds line xs ≡ true) (sym s.parts) (held_after line s.newer s.older) in
     rw there refl
 
 module _ (t : Timing) (others : List ℕ) (line : ℕ) (w : IsWithinLimits t) where
-  here : (sets : List (List ℕ)) (m : ℕ) → IsCache t sets → lines_at (after_fetch t sets m) (m % t.sets) ≡ fetched t.ways m (lines_at sets (m % t.sets))
+  here : (sets : List (List ℕ)) (m : ℕ) → IsCache t sets
+      → lines_at (after_fetch t sets m) (m % t.sets) ≡ fetched t.ways m (lines_at sets (m % t.sets))
   here sets m c = get_or-set_same sets (m % t.sets) _ [] (subst (λ (n : ℕ). m % t.sets < n) (sym c.all_sets) (mod-lt m (some_set t w)))
 
-  elsewhere : (sets : List (List ℕ)) (m : ℕ) → m % t.sets ≢ line % t.sets → lines_at (after_fetch t sets m) (line % t.sets) ≡ lines_at sets (line % t.sets)
+  elsewhere : (sets : List (List ℕ)) (m : ℕ) → m % t.sets ≢ line % t.sets
+      → lines_at (after_fetch t sets m) (line % t.sets) ≡ lines_at sets (line % t.sets)
   elsewhere sets m ne = get_or-set_other sets (m % t.sets) (line % t.sets) _ [] (λ e. ne (sym e))
 
   -- a fetched line stands after no other
   pub newest : (sets : List (List ℕ)) → IsCache t sets → StandsIn t (after_fetch t sets line) others line
   newest sets c = subst (StandsAfter others line) (sym (here sets line c)) (in_front t.ways line others (lines_at sets (line % t.sets)) w.some_way)
 
-  unmoved : (sets : List (List ℕ)) (m : ℕ) → m % t.sets ≢ line % t.sets → StandsIn t sets others line → StandsIn t (after_fetch t sets m) others line
+  unmoved : (sets : List (List ℕ)) (m : ℕ) → m % t.sets ≢ line % t.sets → StandsIn t sets others line
+      → StandsIn t (after_fetch t sets m) others line
   unmoved sets m ne s = subst (StandsAfter others line) (sym (elsewhere sets m ne)) s
 
-  beside : (sets : List (List ℕ)) (m : ℕ) → IsCache t sets → m % t.sets ≡ line % t.sets → m ≢ line → holds m others ≡ true → length others < t.ways
+  beside : (sets : List (List ℕ)) (m : ℕ) → IsCache t sets → m % t.sets ≡ line % t.sets → m ≢ line → holds m others ≡ true
+      → length others < t.ways
       → StandsIn t sets others line → StandsIn t (after_fetch t sets m) others line
   beside sets m c same ne one few s =
       let at : lines_at (after_fetch t sets m) (line % t.sets) ≡ fetched t.ways m (lines_at sets (line % t.sets)) =
@@ -119,13 +124,15 @@ module _ (t : Timing) (others : List ℕ) (line : ℕ) (w : IsWithinLimits t) wh
   other sets m c one few s (inr ne) (inl e) = beside sets m c e.1 ne.1 one few s
   other sets m c one few s (inr ne) (inr d) = unmoved sets m d.1 s
 
-  pub spared : (sets : List (List ℕ)) (m : ℕ) → IsCache t sets → length others < t.ways → Spares t others line m → StandsIn t sets others line
+  pub spared : (sets : List (List ℕ)) (m : ℕ) → IsCache t sets → length others < t.ways → Spares t others line m
+      → StandsIn t sets others line
       → StandsIn t (after_fetch t sets m) others line
   spared sets m c few (inl e) s = subst (λ (k : ℕ). StandsIn t (after_fetch t sets k) others line) (sym e) (newest sets c)
   spared sets m c few (inr (inl one)) s = other sets m c one few s (eqb_tells m line) (eqb_tells (m % t.sets) (line % t.sets))
   spared sets m c few (inr (inr ne)) s = unmoved sets m ne s
 
-  pub spared_all : (sets : List (List ℕ)) (ms : List ℕ) → IsCache t sets → length others < t.ways → AllByRecursion (Spares t others line) ms → StandsIn t sets others line
+  pub spared_all : (sets : List (List ℕ)) (ms : List ℕ) → IsCache t sets → length others < t.ways
+      → AllByRecursion (Spares t others line) ms → StandsIn t sets others line
       → StandsIn t (after_fetches t sets ms) others line
   spared_all sets [] c few all s = s
   spared_all sets (m ∷ ms) c few all s = spared_all (after_fetch t sets m) ms (cache_kept t sets m w c) few all.1 (spared sets m c few all.0 s)

@@ -38,17 +38,19 @@ pub fn fetch_costs_what_the_timing_says()
 /// A line stays in the cache while fewer others of its set are fetched than a set has ways.
 ///
 /// - `first`: once it is fetched, no other line of its set is newer.
-/// - `stays`: where only some of fewer others than the ways are newer, the fetch of one of these, of the line itself or of
-///   a line of another set leaves it so.
+/// - `stays`: where only some of fewer others than the ways are newer, the fetch of one of these, of the line itself or
+///   of a line of another set leaves it so.
 /// - `all`: and so do all fetches of such lines, one after another.
 /// - `hit`: fetched then, the line costs no miss.
 pub fn few_others_leave_a_line()
-    ensures first { (t : Timing) (sets : List (List ℕ)) (others : List ℕ) (line : ℕ) → IsWithinLimits t → IsCache t sets →
-        StandsIn t (after_fetch t sets line) others line }
-    ensures stays { (t : Timing) (sets : List (List ℕ)) (others : List ℕ) (line fetch : ℕ) → IsWithinLimits t → IsCache t sets →
-        length others < t.ways → Spares t others line fetch → StandsIn t sets others line → StandsIn t (after_fetch t sets fetch) others line }
-    ensures all { (t : Timing) (sets : List (List ℕ)) (others : List ℕ) (line : ℕ) (fetches : List ℕ) → IsWithinLimits t → IsCache t sets →
-        length others < t.ways → AllByRecursion (Spares t others line) fetches → StandsIn t sets others line →
-        StandsIn t (after_fetches t sets fetches) others line }
-    ensures hit { (t : Timing) (sets : List (List ℕ)) (others : List ℕ) (line : ℕ) → StandsIn t sets others line → penalty t sets line ≡ 0 }
+    ensures first { (t : Timing) (sets : List (List ℕ)) (others : List ℕ) (line : ℕ) →
+        IsWithinLimits t → IsCache t sets → StandsIn t (after_fetch t sets line) others line }
+    ensures stays { (t : Timing) (sets : List (List ℕ)) (others : List ℕ) (line fetch : ℕ) →
+        IsWithinLimits t → IsCache t sets → length others < t.ways → Spares t others line fetch →
+        StandsIn t sets others line → StandsIn t (after_fetch t sets fetch) others line }
+    ensures all { (t : Timing) (sets : List (List ℕ)) (others : List ℕ) (line : ℕ) (fetches : List ℕ) →
+        IsWithinLimits t → IsCache t sets → length others < t.ways → AllByRecursion (Spares t others line) fetches →
+        StandsIn t sets others line → StandsIn t (after_fetches t sets fetches) others line }
+    ensures hit { (t : Timing) (sets : List (List ℕ)) (others : List ℕ) (line : ℕ) →
+        StandsIn t sets others line → penalty t sets line ≡ 0 }
 {}

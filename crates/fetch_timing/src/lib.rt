@@ -14,8 +14,8 @@ mod timing;
 
 pub use cache::LruCache;
 pub use laws::{
-    empty_cache_is_a_cache, few_others_leave_a_line, fetch_costs_what_the_timing_says,
-    fetch_keeps_a_cache, fetch_leaves_what_the_timing_says, file_limits_are_those_of_timings,
+    empty_cache_is_a_cache, fetch_costs_what_the_timing_says, fetch_keeps_a_cache,
+    fetch_leaves_what_the_timing_says, few_others_leave_a_line, file_limits_are_those_of_timings,
 };
 pub use reading::read_timing;
 pub use refusal::TimingRefusal;

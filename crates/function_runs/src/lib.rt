@@ -10,8 +10,6 @@
 mod laws;
 mod refusals;
 mod running;
-#[cfg(test)]
-mod tests;
 mod writing;
 
 pub use laws::results_agree;

@@ -8,7 +8,7 @@ use arm_machine::{StartRefusal, Stop};
 use std::alloc::AllocError;
 
 /// Why a run has no result.
-#[derive(Clone, Copy, Debug, PartialEq, Eq)]
+#[derive(Clone, Copy)]
 pub enum RunRefusal {
     /// "memory": memory was refused. It may come at any place.
     Memory,

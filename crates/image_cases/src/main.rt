@@ -10,8 +10,8 @@
 //! cuts FILE FROM TO              how often each answer comes, at each length from FROM on and below TO
 //! at FILE ADDRESS EDIT..         whether there is code; the code, the word, the constant, and what is loaded there
 //! name FILE NAME EDIT..          the function of that name, where `.` stands for a zero byte
-//! many FILE COUNT SIZE           the file, which has no segment, with COUNT of 16 bytes at descending addresses, the last of
-//!                                SIZE bytes
+//! many FILE COUNT SIZE           the file, which has no segment, with COUNT of 16 bytes at descending addresses, the
+//!                                last of SIZE bytes
 //! code FILE COUNT ADDRESS        the code there among COUNT such segments
 //! ```
 #![tactic(auto)]
@@ -107,8 +107,8 @@ fn name_line(rt: HostRuntime, line: &str, file: &[u8], name: &str) -> anyhow::Re
     Ok(())
 }
 
-/// A file with this header and so many segments of 16 zero bytes each, which may be executed, at descending addresses,
-/// the last of another size.
+/// A file with this header and a number of segments of 16 zero bytes each, which may be executed, at descending
+/// addresses, the last of another size.
 fn segments(alloc: Global, header: &[u8], count: u16, last: u32) -> Result<Vec<u8>, AllocError> {
     let mut bytes = header.to_vec(alloc)?;
     for index in 0..count {

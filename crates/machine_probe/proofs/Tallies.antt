@@ -1,9 +1,7 @@
 -- What probes have counted after some events.
-use Rattle.std.proofs.Common.{◌≡◌, ℕ, ◌+◌, ◌*◌, ◌^◌, ◌<◌, ◌≤◌, Bool, true, false, cond, List, [], ◌∷◌, ◌++◌, length, map, take, get_or, refl, sym, ap, subst, add-one, add-zero, arith}
+use Rattle.std.proofs.Common.{◌≡◌, ℕ, ◌+◌, ◌*◌, ◌^◌, ◌<◌, ◌≤◌, Bool, true, false, cond, List, [], ◌∷◌, ◌++◌, length, map, refl, sym, add-zero, arith}
 use Rattle.std.specs.List.{AllByRecursion, sum_by}
-use Rattle.std.proofs.lemmas.Grind.{common_steps}
 use Rattle.std.proofs.lemmas.List.Sums.{sum_by-cons, sum_by_push}
-use Rattle.std.proofs.Math.Seq.{take-suc}
 use Rattle.arm_machine.specs.declared.events.Event.{Event}
 use Rattle.machine_probe.specs.declared.rules.Rule.{Rule}
 use Rattle.machine_probe.specs.declared.rules.Weigh.{Weigh}
@@ -63,20 +61,3 @@ small_after events (p ∷ ps) short few small =
     let first : p.tally ≤ 2 ^ 126 = small.0 in
     let sums = sum_limit p.rule.weigh events short in
     (omega (arith, first, sums), small_after events ps short few small.1)
-
-ready_push : (ps : List Standing) (p : Standing) → AreReady ps → p.tally ≤ 2 ^ 126 → AreReady (ps ++ p ∷ [])
-ready_push [] p ready one = (one, tt)
-ready_push (q ∷ ps) p ready one = (ready.0, ready_push ps p ready.1 one)
-
-map_push : {B : Type 0} (at : B → Standing) (xs : List B) (x : B) → map at (xs ++ x ∷ []) ≡ map at xs ++ at x ∷ []
-map_push at [] x = refl
-map_push at (y ∷ xs) x = ap (λ (l : List Standing). at y ∷ l) (map_push at xs x)
-
--- where the first probes of a list are ready and the next one is, one more is
-pub ready_next : {B : Type 0} (at : B → Standing) (xs : List B) (i : ℕ) (x : B) → x ≡ get_or xs i x → AreReady (map at (take i xs)) → i < length xs → (at x).tally ≤ 2 ^ 126 → AreReady (map at (take (i + 1) xs))
-ready_next at xs i x is ready lt one =
-    rw (add-one, take-suc xs i x lt, map_push at (take i xs) (get_or xs i x))
-    (ready_push (map at (take i xs)) (at (get_or xs i x)) ready (subst (λ (y : _). (at y).tally ≤ 2 ^ 126) is one))
-
-pub all_ready : {B : Type 0} (at : B → Standing) (xs : List B) (i : ℕ) → AreReady (map at (take i xs)) → length xs ≤ i → AreReady (map at xs)
-all_ready at xs i ready end = let whole : take i xs ≡ xs = grind (arith, common_steps) in subst (λ (l : List _). AreReady (map at l)) whole ready

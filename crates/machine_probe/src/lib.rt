@@ -10,6 +10,3 @@ pub use laws::runs_agree;
 pub use probing::{Counter, Probe};
 pub use rules::{Go, Rule, Weigh};
 pub use running::{RunEnd, run};
-
-#[cfg(test)]
-mod tests;

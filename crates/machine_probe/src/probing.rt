@@ -31,7 +31,7 @@ pub trait Probe: Drop {
 }
 
 /// A probe that counts by a rule.
-#[derive(Clone, Copy, Debug, PartialEq, Eq)]
+#[derive(Clone, Copy)]
 pub struct Counter {
     rule: Rule,
     tally: u128,

@@ -7,7 +7,7 @@ use arm_isa::Class;
 use arm_machine::Event;
 
 /// What a probe counts.
-#[derive(Clone, Copy, Debug, PartialEq, Eq)]
+#[derive(Clone, Copy, Debug)]
 pub enum Weigh {
     /// Steps.
     Steps,
@@ -40,7 +40,7 @@ impl Weigh {
 }
 
 /// What a probe counts, and the greatest tally with which it lets a run go on.
-#[derive(Clone, Copy, Debug, PartialEq, Eq)]
+#[derive(Clone, Copy)]
 pub struct Rule {
     /// What it counts.
     pub weigh: Weigh,
@@ -49,7 +49,7 @@ pub struct Rule {
 }
 
 /// Whether a run may go on.
-#[derive(Clone, Copy, Debug, PartialEq, Eq)]
+#[derive(Clone, Copy)]
 pub enum Go {
     /// It may.
     On,

@@ -12,7 +12,7 @@ use crate::rules::Go;
 use arm_machine::{Event, Machine, StepEnd, Stop};
 
 /// How a run ends.
-#[derive(Clone, Copy, Debug, PartialEq, Eq)]
+#[derive(Clone, Copy, Debug)]
 pub enum RunEnd {
     /// The machine stands at the return address, after so many steps of so many cycles together.
     Returned {

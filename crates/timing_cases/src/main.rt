@@ -1,4 +1,5 @@
-//! Reads timing files, costs instructions and fetches lines as lines of input say, and prints each line with the answers.
+//! Reads timing files, costs instructions and fetches lines as lines of input say, and prints each line with the
+//! answers.
 //!
 //! The reason of a line stands after ` # `. In texts `%` with two hexadecimal digits is any byte, and `@` the object of
 //! the table `unit`.
@@ -7,7 +8,7 @@
 //! text TEXT                      the timing of a text, its numbers in the order of the names, or why there is none
 //! value NAME TEXT                the same of the object of `unit` with that text as a name's value
 //! without NAME                   the same of that object without a name, where another name stands twice
-//! nested LISTS                   the same of that object with a first value of `miss` that is so many lists in one another
+//! nested LISTS                   the same of that object with a first value of `miss` of LISTS lists in one another
 //! cost WORD NUMBER..             what the instruction of a word costs by these numbers: done, skipped, and at most
 //! place ADDRESS                  the line of an address and its set, by `unit`
 //! fetch SETS WAYS LINE..         lines fetched into an empty cache, `1` for each that was there

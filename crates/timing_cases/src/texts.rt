@@ -64,7 +64,7 @@ pub fn object_without(alloc: Global, left_out: &str) -> Result<String, AllocErro
     Ok(text)
 }
 
-/// The object of the table `unit` with a first value of `miss` that is so many lists in one another.
+/// The object of the table `unit` with a first value of `miss` that is a number of lists in one another.
 pub fn object_nested(alloc: Global, lists: u32) -> Result<String, AllocError> {
     let mut value = String::new(alloc);
     for _list in 0..lists {

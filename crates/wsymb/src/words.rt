@@ -2,7 +2,7 @@ use std::rt::Env;
 use std::{env, io};
 
 /// Why there are no words.
-#[derive(Clone, Copy, Debug, PartialEq, Eq)]
+#[derive(Clone, Copy)]
 pub(crate) enum WordsError {
     /// Memory was refused.
     Memory,

@@ -23,10 +23,3 @@ mod walk;
 
 pub use refusals::{Refusal, Status};
 pub use top::wsymb;
-
-#[cfg(test)]
-mod run_tests;
-#[cfg(test)]
-mod test_files;
-#[cfg(test)]
-mod tests;

@@ -23,7 +23,7 @@ pub(crate) const ANSWERED: Status = 0;
 pub(crate) const WRITE_FAULT: Status = 4;
 
 /// Why a command has no answer. Each refusal but a fault of the sink writes one line.
-#[derive(Clone, Copy, Debug, PartialEq, Eq)]
+#[derive(Clone, Copy)]
 pub enum Refusal {
     /// Status 1: memory was refused. It may come at any place.
     Memory,
