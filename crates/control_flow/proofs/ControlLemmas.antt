@@ -68,7 +68,7 @@ module _ (image : ImageValue) (entry : ℕ) (p : Point) where
 
   called : (insn : Insn) (recurs : Bool) (place : Place Point)
       → (cond recurs [] (record { done = true; to = place } ∷ skipped_way p.returns (skipped_to p.address insn)) ≡ ways_to p insn
-          (cond recurs (Err fault.Recursive) (Ok place)))
+      (cond recurs (Err fault.Recursive) (Ok place)))
       × (cond recurs (Some fault.Recursive) None ≡ fault_in (cond recurs (Err fault.Recursive) (Ok place)))
   called insn true place = (refl, refl)
   called insn false place = (onward insn place, refl)
@@ -81,7 +81,7 @@ module _ (image : ImageValue) (entry : ℕ) (p : Point) where
 
   others : (insn : Insn) (returns writes : Bool)
       → Same (cond returns (control.Return (skipped_to p.address insn))
-          (cond writes (control.Fault fault.Indirect) (control.Go (next_address p.address) (skipped_to p.address insn)))) insn
+      (cond writes (control.Fault fault.Indirect) (control.Go (next_address p.address) (skipped_to p.address insn)))) insn
       (cond returns (Ok (return_place (last_return p.returns) p.returns)) (cond writes (Err fault.Indirect) (Ok (next_place p))))
   others insn true writes = (onward insn (return_place (last_return p.returns) p.returns), refl)
   others insn false true = (refl, refl)

@@ -61,8 +61,14 @@ ways_by goes entry returns (control.Go target skipped) =
     record { done = true; to = At (record { returns = returns; address = target }) } ∷ skipped_way returns skipped
 ways_by goes entry returns (control.Call target after skipped) =
     if is_open goes entry returns target then []
-    else record { done = true; to = At (record { returns = returns
-        ++ after ∷ []; address = target }) } ∷ skipped_way returns skipped
+    else record {
+      done = true;
+      to = At (record {
+        returns = returns
+            ++ after ∷ [];
+        address = target;
+      });
+    } ∷ skipped_way returns skipped
 ways_by goes entry returns (control.Return skipped) =
     record { done = true; to = return_place (last_return returns) returns } ∷ skipped_way returns skipped
 ways_by goes entry returns (control.Fault fault) = []

@@ -12,4 +12,6 @@ mod laws;
 
 pub use control::{Control, Fault, called_before, control_at};
 pub use instructions::{FetchFault, fetch};
-pub use laws::{collected_points_have_histories, controls_give_ways_and_faults, faults_have_no_way};
+pub use laws::{
+    collected_points_have_histories, controls_give_ways_and_faults, faults_have_no_way,
+};
