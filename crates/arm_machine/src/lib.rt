@@ -27,3 +27,4 @@ pub use laws::{
 pub use machine::Machine;
 pub use start::{RegisterValue, StartRefusal};
 pub use stops::StepEnd;
+pub use transfers::Transfer;

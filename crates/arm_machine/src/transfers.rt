@@ -16,16 +16,25 @@ use arm_cpu::{Cpu, Stop, shift_value};
 use arm_isa::{HalfKind, HalfTransfer, Index, Offset, WordTransfer};
 use elf32_image::Image;
 
-/// A load or store of one number: how many bytes, how a load fills them up, and where.
+/// A load or store of one number: how many bytes, how a load fills them up, and where. Definitions of other crates speak
+/// of it.
 #[derive(Clone, Copy)]
-pub(crate) struct Transfer {
+pub struct Transfer {
+    /// Whether it loads.
     pub load: bool,
+    /// How many bytes it touches.
     pub size: Size,
+    /// What a load fills above its number.
     pub kind: HalfKind,
+    /// When the offset counts.
     pub index: Index,
+    /// Whether the offset is added; else it is subtracted.
     pub up: bool,
+    /// The base.
     pub rn: u8,
+    /// The register that is loaded or stored.
     pub rd: u8,
+    /// What the base is changed by.
     pub offset: Offset,
 }
 
