@@ -1,0 +1,12 @@
+pub mod BlockLemmas
+pub mod FactLemmas
+pub mod LiteralLemmas
+pub mod MarkLemmas
+pub mod NumberLemmas
+pub mod RegisterLemmas
+pub mod ReturnLemmas
+pub mod RouteLemmas
+pub mod RunLemmas
+pub mod StackLemmas
+pub mod StepLemmas
+pub mod WayLemmas

@@ -1,0 +1,4 @@
+pub mod Facts
+pub mod Histories
+pub mod Routes
+pub mod Sources
