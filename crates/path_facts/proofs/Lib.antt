@@ -1,4 +1,5 @@
 pub mod BlockLemmas
+pub mod Example
 pub mod FactLemmas
 pub mod LiteralLemmas
 pub mod MarkLemmas

@@ -1,11 +1,10 @@
 -- Sums of words are sums of their signed numbers, modulo 2^32.
-use Rattle.std.proofs.Common.{◌≡◌, ℕ, ℤ, pos, neg_ℤ, ◌+ℤ◌, ◌+◌, ◌-◌, ◌*◌, ◌%◌, ◌^◌, ◌<◌, ◌≤◌, ◌≢◌, ◌||◌, Bool, true, false, cond, refl, sym}
-use Rattle.std.proofs.Common.{ap, ◌∙◌, subst, arith}
-use Rattle.std.proofs.lemmas.Bool.{ltb-false}
-use Rattle.std.proofs.lemmas.Int.{SFits-int_wrap, int_wrap-add_right, int_wrap_fits, of_z-to_z, wrapping_add-bits, wrapping_add_onto}
-use Rattle.std.proofs.lemmas.Int.{wrapping_sub-bits}
+use Rattle.std.proofs.Common.{◌≡◌, ℕ, zero, suc, ℤ, pos, negsuc, neg_ℤ, ◌+ℤ◌, ◌+◌, ◌-◌, ◌*◌, ◌/◌, ◌%◌, ◌^◌, ◌<◌, ◌≤◌, ◌≢◌, ◌||◌, Bool}
+use Rattle.std.proofs.Common.{true, false, cond, ltb, refl, sym, ap, ◌∙◌, subst, arith}
+use Rattle.std.proofs.lemmas.Bool.{ltb-false, ltb-true}
+use Rattle.std.proofs.lemmas.Int.{int_wrap-add_right, int_wrap_fits, ints, of_z-to_z, wrapping_add-bits, wrapping_sub-bits}
 use Rattle.std.proofs.Math.IntN.{+ℤ_idr}
-use Rattle.std.proofs.Math.Facts.{sfits_to_z, to_z_pos}
+use Rattle.std.proofs.Math.Facts.{sfits_to_z, to_z-neg, to_z_pos}
 use Rattle.std.specs.Int.{cast_unsigned, int_wrap, w32}
 use Rattle.arm_cpu.specs.Registers.{signed_of}
 use Rattle.arm_cpu.specs.Shifts.{inverted}
@@ -34,13 +33,57 @@ sum_form m n = omega arith
 pub difference_form : (m n : ℕ) → n < 2 ^ 32 → (m + inverted n + 1) % 2 ^ 32 ≡ (m + 2 ^ 32 - n) % 2 ^ 32
 difference_form m n q = omega (arith, q)
 
+-- what is left of a number in 32 bits doesn't change by 2^32
+full : int_wrap w32 (neg_ℤ (pos (2 ^ 32))) ≡ pos 0
+full = sym (wrapping_add-bits w32 (2 ^ 31) (2 ^ 31) (omega arith) (omega arith))
+
+one_more : (z : ℤ) → int_wrap w32 (z +ℤ neg_ℤ (pos (2 ^ 32))) ≡ int_wrap w32 z
+one_more z =
+    sym (int_wrap-add_right w32 z (neg_ℤ (pos (2 ^ 32)))) ∙ ap (λ (y : ℤ). int_wrap w32 (z +ℤ y)) full ∙ ap (int_wrap w32) (+ℤ_idr z)
+
+many_more : (k : ℕ) (z : ℤ) → int_wrap w32 (z +ℤ pos (k * 2 ^ 32)) ≡ int_wrap w32 z
+many_more zero z = ap (int_wrap w32) (+ℤ_idr z)
+many_more (suc k) z =
+    let back : z +ℤ pos (suc k * 2 ^ 32) +ℤ neg_ℤ (pos (2 ^ 32)) ≡ z +ℤ pos (k * 2 ^ 32) = omega (arith, ints) in
+    sym (one_more (z +ℤ pos (suc k * 2 ^ 32))) ∙ ap (int_wrap w32) back ∙ many_more k z
+
+residue_small : (z : ℤ) → residue z < 2 ^ 32
+residue_small (pos n) = omega arith
+residue_small (negsuc n) = omega arith
+
+same_residue : (z : ℤ) → int_wrap w32 (pos (residue z)) ≡ int_wrap w32 z
+same_residue (pos n) =
+    let whole : n % 2 ^ 32 + n / 2 ^ 32 * 2 ^ 32 ≡ n = omega arith in
+    sym (many_more (n / 2 ^ 32) (pos (n % 2 ^ 32))) ∙ ap (λ (m : ℕ). int_wrap w32 (pos m)) whole
+same_residue (negsuc n) =
+    let up : pos (2 ^ 32 - 1 - n % 2 ^ 32) ≡ negsuc n +ℤ pos (suc (n / 2 ^ 32) * 2 ^ 32) = omega (arith, ints) in
+    ap (int_wrap w32) up ∙ many_more (suc (n / 2 ^ 32)) (negsuc n)
+
+same_signed : (n : ℕ) → n < 2 ^ 32 → int_wrap w32 (pos n) ≡ int_wrap w32 (signed_of n)
+same_signed n small = by_sign (ltb n (2 ^ 31)) refl
+  where
+    turned : (m k : ℕ) → m + suc k ≡ 2 ^ 32 → k < 2 ^ 31 → int_wrap w32 (pos m) ≡ int_wrap w32 (signed_of m)
+    turned m k sum less =
+        let is : m ≡ 2 ^ 32 - suc k = omega (arith, sum) in
+        let up : pos m ≡ negsuc k +ℤ pos (1 * 2 ^ 32) = omega (arith, ints, sum) in
+        ap (int_wrap w32) up ∙ many_more 1 (negsuc k) ∙ sym (ap (int_wrap w32) (ap signed_of is ∙ to_z-neg w32 k less))
+
+    by_sign : (b : Bool) → ltb n (2 ^ 31) ≡ b → int_wrap w32 (pos n) ≡ int_wrap w32 (signed_of n)
+    by_sign true on = ap (int_wrap w32) (sym (to_z_pos w32 (ltb-true n (2 ^ 31) on)))
+    by_sign false off =
+        let more = ltb-false n (2 ^ 31) off in
+        turned n (2 ^ 32 - 1 - n) (omega (arith, small)) (omega (arith, small, more))
+
+pub same_word : (m n : ℕ) → m < 2 ^ 32 → n < 2 ^ 32 → signed_of m ≡ signed_of n → m ≡ n
+same_word m n p q same = sym (of_z-to_z w32 m p) ∙ ap (cast_unsigned w32) same ∙ of_z-to_z w32 n q
+
 -- a number that a fact of r13 gives
 pub as_word : (sp n : ℕ) (o : ℤ) → sp < 2 ^ 32 → n < 2 ^ 32 → IsCongruent (signed_of sp +ℤ o) n → n ≡ (sp + residue o) % 2 ^ 32
 as_word sp n o p q is =
-    sym (of_z-to_z w32 n q)
-    ∙ ap (cast_unsigned w32) (is ∙ sym (int_wrap-add_right w32 (signed_of sp) o) ∙ sym
-    (wrapping_add_onto w32 sp (int_wrap w32 o) p (SFits-int_wrap w32 o)))
-    ∙ of_z-to_z w32 ((sp + residue o) % 2 ^ 32) (omega arith)
+    same_word n ((sp + residue o) % 2 ^ 32) q (omega arith)
+    (is ∙ sym (int_wrap-add_right w32 (signed_of sp) o)
+    ∙ ap (λ (z : ℤ). int_wrap w32 (signed_of sp +ℤ z)) (sym (same_residue o) ∙ same_signed (residue o) (residue_small o))
+    ∙ int_wrap-add_right w32 (signed_of sp) (signed_of (residue o)) ∙ sym (sum_of sp (residue o) p (residue_small o)))
 
 pub small_itself : (c : ℕ) → c < 2 ^ 12 → signed_of c ≡ pos c
 small_itself c small = to_z_pos w32 (omega (arith, small))

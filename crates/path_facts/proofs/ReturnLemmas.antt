@@ -2,9 +2,8 @@
 use Rattle.std.proofs.Common.{◌≡◌, ℕ, ℤ, pos, ◌+ℤ◌, ◌+◌, ◌*◌, ◌%◌, ◌^◌, ◌<◌, ◌≤◌, ◌&&◌, not, Bool, true, false, cond, Option, Some, None}
 use Rattle.std.proofs.Common.{IfSome, Result, Ok, Err, List, [], ◌∷◌, eqb, slice_index, refl, sym, ap, ◌∙◌, subst}
 use Rattle.std.specs.Prelude.{count_ones}
-use Rattle.std.specs.Int.{cast_unsigned, int_wrap, w32}
+use Rattle.std.specs.Int.{int_wrap, w32}
 use Rattle.std.proofs.lemmas.Bool.{eqb-true, eq-eqb, ne_eqb, eqb-false, false≢true}
-use Rattle.std.proofs.lemmas.Int.{of_z-to_z}
 use Rattle.std.proofs.Math.IntN.{+ℤ_idl, +ℤ_idr}
 use Rattle.elf32_image.specs.Parts.{ImageValue}
 use Rattle.arm_isa.specs.declared.conditions.Flags.{Flags}
@@ -48,7 +47,7 @@ use Rattle.path_facts.specs.Routes.{IsAt}
 use Rattle.path_facts.specs.Sources.{access_offset, block_offset, load_source, loads_source, next_offset, return_source}
 use Rattle.path_facts.proofs.BlockLemmas.{lowest_is, next_at}
 use Rattle.path_facts.proofs.FactLemmas.{says_true}
-use Rattle.path_facts.proofs.NumberLemmas.{itself}
+use Rattle.path_facts.proofs.NumberLemmas.{itself, same_word}
 use Rattle.path_facts.proofs.RegisterLemmas.{IsOffsetOfSp, access_is, both, load_gives, unshifted}
 use Rattle.path_facts.proofs.StepLemmas.{both_done, offset_is}
 
@@ -195,9 +194,6 @@ module _ (sp : ℕ) (s : State) (before : ℕ → Bool) (words : AreWords s.cpu)
       through_pc s (jumped s.cpu (read s.cpu this.rm)) (Gives (Copy (Register 14)))
       (if_weaker (jumped s.cpu (read s.cpu this.rm)) _ _
       (λ next e. ap (λ (n : ℕ). Some n) (e ∙ ap (read s.cpu) (eqb-true this.rm 14 form))) (jumped_pc s.cpu (read s.cpu this.rm)))
-
-same_word : (m n : ℕ) → m < 2 ^ 32 → n < 2 ^ 32 → signed_of m ≡ signed_of n → m ≡ n
-same_word m n p q same = sym (of_z-to_z w32 m p) ∙ ap (cast_unsigned w32) same ∙ of_z-to_z w32 n q
 
 -- where the wanted fact is true of pc, pc is where the return leads
 goes_to : (start : List ℕ) (last : Option ℕ) (returns : List ℕ) (pc : ℕ) → slice_index start 14 < 2 ^ 32 → pc < 2 ^ 32

@@ -4,8 +4,8 @@
 -- chapter A4.
 use Rattle.std.specs.Prelude.{ℕ, ℤ, pos, neg_ℤ, ◌+ℤ◌, ◌+◌, ◌-◌, ◌*◌, ◌%◌, ◌/◌, ◌^◌, ◌==◌, ◌&&◌, ◌||◌, not, nat_le}
 use Rattle.std.specs.Prelude.{nat_lt}
-use Rattle.std.specs.Prelude.{Bool, true, false, if◌then◌else◌, Option, Some, None, List, [], ◌∷◌, count_ones}
-use Rattle.std.specs.Int.{cast_unsigned, int_wrap, w32}
+use Rattle.std.specs.Prelude.{Bool, true, false, if◌then◌else◌, Option, Some, None, List, [], ◌∷◌, count_ones, unsigned_abs}
+use Rattle.std.specs.Int.{int_rem_euclid}
 use Rattle.arm_isa.specs.declared.instruction.Op.{Op}
 use Rattle.arm_isa.specs.declared.instruction.Op.TheVariants as op
 use Rattle.arm_isa.specs.declared.instruction.DataProcessing.{DataProcessing}
@@ -60,7 +60,7 @@ compute_source a code rn (operand.ByRegister rm kind rs) = Nothing
 
 -- a number modulo 2^32
 abbrev pub residue : ℤ → ℕ
-residue z = cast_unsigned w32 (int_wrap w32 z)
+residue z = unsigned_abs (int_rem_euclid z (pos (2 ^ 32)))
 
 -- an offset with a constant added or subtracted
 abbrev pub moved : Bool → ℕ → ℕ → ℕ
