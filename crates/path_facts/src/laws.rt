@@ -16,6 +16,7 @@ ghost use Rattle.arm_machine.specs.Runs.{Returns};
 ghost use Rattle.arm_machine.specs.Starts.{IsStart};
 ghost use Rattle.arm_machine.specs.States.{State};
 ghost use Rattle.arm_machine.specs.Steps.{step};
+ghost use Rattle.path_facts.specs.Example.{example_image};
 ghost use Rattle.path_facts.specs.Facts.{Facts, IsTrueOf, Location, Says, Source, fact_from, offset_of, value_in};
 ghost use Rattle.path_facts.specs.Histories.{AreTrue, FactsHold, HasStack, IsFollowed, facts_after, literal_of};
 ghost use Rattle.path_facts.specs.Routes.{FollowsRoute};
@@ -61,4 +62,9 @@ pub fn runs_follow_routes()
     ensures { (image : ImageValue) (t : Timing) (entry stack : ℕ) (numbers : List RegisterValue) (s : State) (n c : ℕ)
         → entry < 2 ^ 32 → stack < 2 ^ 31 → IsFollowed image entry stack → IsStart image t entry stack numbers s
         → Returns image t (slice_index s.cpu.registers 14) s n c → FollowsRoute image t entry stack s n c }
+{}
+
+/// The premises of `runs_follow_routes` can be met: a function that pushes, calls another one and returns meets them.
+pub fn an_example_is_followed()
+    ensures { IsFollowed example_image 0x8000 4096 }
 {}

@@ -1,5 +1,4 @@
 use Rattle.std.proofs.Common.{slice_index}
-use Rattle.path_facts.proofs.Example.{lower}
 use Rattle.path_facts.proofs.FactLemmas.{says_true}
 use Rattle.path_facts.proofs.laws.sources_give_facts.Goals as goal
 
