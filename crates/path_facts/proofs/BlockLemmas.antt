@@ -4,11 +4,10 @@ use Rattle.std.proofs.Common.{None}
 use Rattle.std.proofs.Common.{IfSome, Ok, Err, List, [], ◌∷◌, length, eqb, slice_index, slice_set, refl, sym, ap, ◌∙◌, subst, arith}
 use Rattle.std.specs.Prelude.{count_ones}
 use Rattle.std.specs.List.{AllByRecursion}
-use Rattle.std.proofs.lemmas.Bool.{eqb-true, eqb-false, eq-eqb, ne_eqb, false≢true}
+use Rattle.std.proofs.lemmas.Bool.{eqb-true, eqb-false, ne_eqb}
 use Rattle.std.proofs.lemmas.List.{get_or-set_other, get_or-set_same, length-set}
 use Rattle.elf32_image.specs.Parts.{ImageValue}
 use Rattle.arm_isa.specs.declared.instruction.BlockTransfer.{BlockTransfer}
-use Rattle.arm_isa.specs.declared.instruction.Op.TheVariants as op
 use Rattle.arm_isa.specs.Writes.{is_listed}
 use Rattle.arm_cpu.specs.declared.cpu.Cpu.{Cpu}
 use Rattle.arm_cpu.specs.declared.stops.Stop.TheVariants as stop

@@ -1,11 +1,15 @@
 -- The facts of a small function, worked out by the definitions, and that it meets the premises under which runs are routes.
-use Rattle.std.proofs.Common.{◌≡◌, ℕ, zero, suc, ◌<◌, pos, neg_ℤ, Bool, true, false, Contains, Option, Some, None, List, [], ◌∷◌, refl}
-use Rattle.std.proofs.Common.{sym, ◌∙◌, subst, arith}
+use Rattle.std.proofs.Common.{◌≡◌, ℕ, zero, suc, ◌<◌, ℤ, pos, neg_ℤ, Bool, true, false, Contains, Option, Some, None, List, [], ◌∷◌}
+use Rattle.std.proofs.Common.{inr, refl, sym, ◌∙◌, subst, arith}
 use Rattle.std.proofs.lemmas.Bool.{false≢true}
+use Rattle.std.proofs.lemmas.Int.{ints}
+use Rattle.elf32_image.specs.Parts.{ImageValue}
 use Rattle.arm_isa.specs.declared.conditions.Condition.TheVariants.{Al}
 use Rattle.arm_isa.specs.declared.instruction.Insn.{Insn}
 use Rattle.arm_isa.specs.declared.instruction.Op.{Op}
 use Rattle.arm_isa.specs.declared.instruction.Op.TheVariants as op
+use Rattle.arm_isa.specs.declared.instruction.Index.TheVariants.{BeforeBack}
+use Rattle.arm_isa.specs.declared.instruction.Offset.TheVariants.{Value as Bytes}
 use Rattle.arm_isa.specs.declared.instruction.Operand.TheVariants.{Value as Constant}
 use Rattle.arm_isa.specs.declared.opcodes.Opcode.TheVariants.{Add}
 use Rattle.arm_isa.specs.Writes.{is_return_form}
@@ -17,10 +21,11 @@ use Rattle.control_flow.specs.Ways.{fault_at, ways_from}
 use Rattle.control_flow.proofs.WayLemmas.{walk_history}
 use Rattle.arm_machine.specs.Blocks.{registers_of}
 use Rattle.path_facts.specs.Example.{example_image}
-use Rattle.path_facts.specs.Facts.{Fact}
+use Rattle.path_facts.specs.Facts.{Fact, Origin}
 use Rattle.path_facts.specs.Facts.Location.{Register, StackWord}
 use Rattle.path_facts.specs.Facts.Origin.{Zero, AtStart}
 use Rattle.path_facts.specs.Histories.{IsFollowed, IsHistoryOf, facts_of, returned_fact, wanted_fact}
+use Rattle.path_facts.specs.StackUse.{IsReturnUnproved, IsStackLost, IsStackOver}
 
 abbrev done_at : List ℕ → ℕ → Taken Point
 done_at returns a = record { point = record { returns = returns; address = a }; done = true }
@@ -221,4 +226,90 @@ example_followed = record {
   no_fault = λ p reached. let history = walk_history ways (entry_point 0x8000) reached.0 p reached.1 in
       clear history.0 p (is_one history.0 p history.1);
   returns = λ h p insn history found. brings h p insn (is_one h p history) found;
+}
+
+-- with a stack of 4 bytes the push goes beyond it
+over : IsStackOver example_image 0x8000 4 (point_at [] 0x8000) (neg_ℤ (pos 8))
+unfolding lib.Count.ones
+over = record {
+  insn = always (op.Block (record {
+    load = false;
+    before = true;
+    up = false;
+    write_back = true;
+    rn = 13;
+    list = 0x4010;
+  }));
+  found = refl;
+  by_sp = refl;
+  history = [];
+  leads = refl;
+  at = refl;
+  beyond = omega (arith, ints);
+}
+
+-- MOV r14,#0; BX r14: the return doesn't bring what r14 held at the start
+abbrev unproved_image : ImageValue
+unproved_image = record {
+  segments = record { address = 0x8000; bytes = 0 ∷ 224 ∷ 160 ∷ 227 ∷ 30 ∷ 255 ∷ 47 ∷ 225 ∷ []; size = 8; flags = 5 } ∷ [];
+  functions = [];
+}
+
+abbrev IsZero : Origin → Type 0
+IsZero Zero = Unit {0}
+IsZero (AtStart r) = ⊥
+
+abbrev IsOfZero : Option Fact → Type 0
+IsOfZero None = Unit {0}
+IsOfZero (Some f) = IsZero f.origin
+
+zero_isnt_link : ◌≡◌ {A = Option Fact} (Some (record { origin = Zero; constant = pos 0 })) (Some (record {
+  origin = AtStart 14;
+  constant = pos 0;
+})) → ⊥
+zero_isnt_link e = subst IsOfZero e tt
+
+unproved : IsReturnUnproved unproved_image 0x8000 4096 (point_at [] 0x8004)
+unproved = record {
+  insn = always (op.Exchange (record { rm = 14 }));
+  found = refl;
+  returns = refl;
+  history = done_at [] 0x8000 ∷ [];
+  leads = (refl, (0, omega arith, refl));
+  other = zero_isnt_link;
+}
+
+-- STR r0,[r13,#-4]!; SUBS r1,r1,#1; BNE 8000; BX r14: each turn pushes one word more
+abbrev pushing_image : ImageValue
+pushing_image = record {
+  segments = record {
+    address = 0x8000;
+    bytes = 4 ∷ 0 ∷ 45 ∷ 229 ∷ 1 ∷ 16 ∷ 81 ∷ 226 ∷ 252 ∷ 255 ∷ 255 ∷ 26 ∷ 30 ∷ 255 ∷ 47 ∷ 225 ∷ [];
+    size = 16;
+    flags = 5;
+  } ∷ [];
+  functions = [];
+}
+
+zero_isnt_lower : ◌≡◌ {A = Option ℤ} (Some (pos 0)) (Some (neg_ℤ (pos 4))) → ⊥
+zero_isnt_lower e = cc
+
+lost : IsStackLost pushing_image 0x8000 4096 (point_at [] 0x8000)
+lost = record {
+  insn = always (op.Word (record {
+    load = false;
+    byte = false;
+    index = BeforeBack;
+    up = false;
+    rn = 13;
+    rd = 0;
+    offset = Bytes 4;
+  }));
+  found = refl;
+  by_sp = refl;
+  one = [];
+  other = done_at [] 0x8008 ∷ done_at [] 0x8004 ∷ done_at [] 0x8000 ∷ [];
+  leads = refl;
+  leads_too = (((refl, (0, omega arith, refl)), (0, omega arith, refl)), (0, omega arith, refl));
+  differ = inr zero_isnt_lower;
 }

@@ -9,5 +9,6 @@ pub mod ReturnLemmas
 pub mod RouteLemmas
 pub mod RunLemmas
 pub mod StackLemmas
+pub mod StackUseLemmas
 pub mod StepLemmas
 pub mod WayLemmas

@@ -1,6 +1,6 @@
 -- The word that a load by r15 reads is the image's.
 use Rattle.std.proofs.Common.{◌≡◌, ℕ, ◌+◌, ◌-◌, ◌%◌, ◌^◌, ◌<◌, Bool, true, false, cond, eqb, Option, Some, None, IfSome, option_and_then}
-use Rattle.std.proofs.Common.{slice_index, refl, sym, ap, ◌∙◌, subst}
+use Rattle.std.proofs.Common.{refl, ap, ◌∙◌}
 use Rattle.std.proofs.lemmas.Bool.{eqb-true}
 use Rattle.std.specs.FinMap.{get}
 use Rattle.elf32_image.specs.Parts.{ImageValue}

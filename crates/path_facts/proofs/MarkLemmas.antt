@@ -13,8 +13,6 @@ use Rattle.std.specs.List.{list_any}
 use Rattle.std.specs.Int.{w32}
 use Rattle.elf32_image.specs.Parts.{ImageValue}
 use Rattle.arm_isa.specs.declared.instruction.BlockTransfer.{BlockTransfer}
-use Rattle.arm_isa.specs.declared.instruction.HalfTransfer.{HalfTransfer}
-use Rattle.arm_isa.specs.declared.instruction.WordTransfer.{WordTransfer}
 use Rattle.arm_isa.specs.declared.instruction.Op.{Op}
 use Rattle.arm_isa.specs.declared.instruction.Op.TheVariants as op
 use Rattle.arm_isa.specs.Guarantees.{IsGuarded}
@@ -27,7 +25,7 @@ use Rattle.arm_machine.specs.declared.transfers.Transfer.{Transfer}
 use Rattle.arm_machine.specs.States.{State}
 use Rattle.arm_machine.specs.Access.{is_saved, marked, store_stop, stored, without_mark, word_holding}
 use Rattle.arm_machine.specs.Blocks.{block_stop, is_push_block, loads_many, lowest, next_word, registers_of, stored_block, stores_many}
-use Rattle.arm_machine.specs.Transfers.{accessed, half_transfer, is_push, loads, stores, with_cpu, word_size, word_transfer}
+use Rattle.arm_machine.specs.Transfers.{accessed, half_transfer, is_push, loads, stores, with_cpu, word_transfer}
 use Rattle.arm_machine.specs.Effects.{effect}
 use Rattle.arm_machine.specs.Laws.{Holds, IfDone, Stays, is_store}
 use Rattle.arm_machine.specs.Orderly.{AreWords}

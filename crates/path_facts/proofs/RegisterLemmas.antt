@@ -7,8 +7,6 @@ use Rattle.std.proofs.lemmas.List.{get_or-set_same, length-set}
 use Rattle.elf32_image.specs.Parts.{ImageValue}
 use Rattle.arm_isa.specs.declared.conditions.Flags.{Flags}
 use Rattle.arm_isa.specs.declared.instruction.BlockTransfer.{BlockTransfer}
-use Rattle.arm_isa.specs.declared.instruction.DataProcessing.{DataProcessing}
-use Rattle.arm_isa.specs.declared.instruction.HalfTransfer.{HalfTransfer}
 use Rattle.arm_isa.specs.declared.instruction.WordTransfer.{WordTransfer}
 use Rattle.arm_isa.specs.declared.instruction.Op.{Op}
 use Rattle.arm_isa.specs.declared.instruction.Op.TheVariants as op

@@ -1,5 +1,5 @@
 -- What a return brings to pc has a source like a register, and a return whose fact is the wanted one goes where it must.
-use Rattle.std.proofs.Common.{◌≡◌, ℕ, ℤ, pos, ◌+ℤ◌, ◌+◌, ◌*◌, ◌%◌, ◌^◌, ◌<◌, ◌≤◌, ◌&&◌, not, Bool, true, false, cond, Option, Some, None}
+use Rattle.std.proofs.Common.{◌≡◌, ℕ, ℤ, ◌+◌, ◌*◌, ◌%◌, ◌^◌, ◌<◌, ◌≤◌, ◌&&◌, not, Bool, true, false, cond, Option, Some, None}
 use Rattle.std.proofs.Common.{IfSome, Result, Ok, Err, List, [], ◌∷◌, eqb, slice_index, refl, sym, ap, ◌∙◌, subst}
 use Rattle.std.specs.Prelude.{count_ones}
 use Rattle.std.specs.Int.{int_wrap, w32}
@@ -8,13 +8,11 @@ use Rattle.std.proofs.Math.IntN.{+ℤ_idl, +ℤ_idr}
 use Rattle.elf32_image.specs.Parts.{ImageValue}
 use Rattle.arm_isa.specs.declared.conditions.Flags.{Flags}
 use Rattle.arm_isa.specs.declared.instruction.BlockTransfer.{BlockTransfer}
-use Rattle.arm_isa.specs.declared.instruction.DataProcessing.{DataProcessing}
 use Rattle.arm_isa.specs.declared.instruction.WordTransfer.{WordTransfer}
 use Rattle.arm_isa.specs.declared.instruction.Op.{Op}
 use Rattle.arm_isa.specs.declared.instruction.Op.TheVariants as op
 use Rattle.arm_isa.specs.declared.instruction.Operand.{Operand}
 use Rattle.arm_isa.specs.declared.instruction.Operand.TheVariants as operand
-use Rattle.arm_isa.specs.declared.instruction.Shift.{Shift}
 use Rattle.arm_isa.specs.declared.instruction.Shift.TheVariants as shift
 use Rattle.arm_isa.specs.declared.opcodes.Opcode.{Opcode}
 use Rattle.arm_isa.specs.declared.opcodes.Opcode.TheVariants as opcode
@@ -39,7 +37,7 @@ use Rattle.arm_machine.specs.Laws.{IfDone}
 use Rattle.arm_machine.specs.Orderly.{AreWords, IsOrderly}
 use Rattle.arm_machine.proofs.OrderLemmas.{loaded_is, stays_orderly}
 use Rattle.arm_machine.proofs.StayLemmas.{if_test, if_then, if_weaker}
-use Rattle.path_facts.specs.Facts.{Fact, Facts, IsCongruent, IsTrueOf, Says, Source, offset_of}
+use Rattle.path_facts.specs.Facts.{Fact, Facts, IsTrueOf, Says, Source, offset_of}
 use Rattle.path_facts.specs.Facts.Location.{Register}
 use Rattle.path_facts.specs.Facts.Source.{Nothing, Copy}
 use Rattle.path_facts.specs.Histories.{FactsHold, HasStack, returned_fact, wanted_fact}

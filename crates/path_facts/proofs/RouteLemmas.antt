@@ -30,7 +30,7 @@ use Rattle.path_facts.specs.Facts.Location.{Register, StackWord}
 use Rattle.path_facts.specs.Facts.Origin.{AtStart}
 use Rattle.path_facts.specs.Histories.{AreTrue, FactsHold, HasStack, HoldsAt, IsFollowed, IsHistoryOf, facts_after, facts_of, facts_through}
 use Rattle.path_facts.specs.Histories.{start_facts}
-use Rattle.path_facts.specs.Routes.{FollowsRoute, IsAt, IsRouteFrom, instruction_cost, sets_after, way_cycles}
+use Rattle.path_facts.specs.Routes.{FollowsRoute, IsAt, IsRouteFrom, instruction_cost, way_cycles}
 use Rattle.path_facts.proofs.NumberLemmas.{itself_plain}
 use Rattle.path_facts.proofs.ReturnLemmas.{returns_home}
 use Rattle.path_facts.proofs.RunLemmas.{Arrives, IsWayTaken, run_route, taken}

@@ -1,9 +1,9 @@
 -- A returning run whose steps take ways is a route, whatever holds at its points.
-use Rattle.std.proofs.Common.{◌≡◌, ◌≢◌, ℕ, zero, suc, ◌+◌, Contains, List, [], ◌∷◌, length, refl, sym, ap, ◌∙◌, subst}
+use Rattle.std.proofs.Common.{◌≡◌, ◌≢◌, ℕ, zero, suc, ◌+◌, Contains, List, [], ◌∷◌, refl, sym, ap, ◌∙◌, subst}
 use Rattle.elf32_image.specs.Parts.{ImageValue}
 use Rattle.fetch_timing.specs.declared.timing.Timing.{Timing}
 use Rattle.control_flow.specs.Points.{Point, entry_point}
-use Rattle.control_flow.specs.Routes.{IsHistory, IsRoute, Place, Taken, place_of}
+use Rattle.control_flow.specs.Routes.{IsHistory, Place, Taken}
 use Rattle.control_flow.specs.Routes.Place.{At, Exit}
 use Rattle.control_flow.specs.Ways.{ways_from}
 use Rattle.arm_machine.specs.declared.events.Event.{Event}
@@ -12,7 +12,7 @@ use Rattle.arm_machine.specs.Laws.{IfStep}
 use Rattle.arm_machine.specs.Runs.{IfNext, Returns}
 use Rattle.arm_machine.specs.Steps.{Outcome, step}
 use Rattle.arm_machine.specs.Steps.Outcome.{Next, Stopped}
-use Rattle.path_facts.specs.Routes.{IsRouteFrom, StatesAlong, route_cycles, sets_after, way_cycles}
+use Rattle.path_facts.specs.Routes.{IsRouteFrom, route_cycles, sets_after, way_cycles}
 
 -- a step that a run takes
 pub record IsMet (o : Outcome) (P : State → Event → Type 0) (Q : State → ℕ → Type 0) : Type 0 where

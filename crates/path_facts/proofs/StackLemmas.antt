@@ -4,8 +4,6 @@ use Rattle.std.proofs.Common.{Result, Ok, Err, slice_index, refl, sym, ap, ◌�
 use Rattle.std.proofs.lemmas.Bool.{eqb-true, eq-eqb, false≢true}
 use Rattle.elf32_image.specs.Parts.{ImageValue}
 use Rattle.arm_isa.specs.declared.instruction.BlockTransfer.{BlockTransfer}
-use Rattle.arm_isa.specs.declared.instruction.HalfTransfer.{HalfTransfer}
-use Rattle.arm_isa.specs.declared.instruction.WordTransfer.{WordTransfer}
 use Rattle.arm_isa.specs.declared.instruction.Op.{Op}
 use Rattle.arm_isa.specs.declared.instruction.Op.TheVariants as op
 use Rattle.arm_isa.specs.Guarantees.{IsGuarded}
@@ -17,7 +15,7 @@ use Rattle.arm_machine.specs.declared.access.Size.{Size}
 use Rattle.arm_machine.specs.declared.access.Size.TheVariants as size
 use Rattle.arm_machine.specs.declared.transfers.Transfer.{Transfer}
 use Rattle.arm_machine.specs.States.{Bytes, State}
-use Rattle.arm_machine.specs.Access.{bytes_of, is_aligned, number_at, store_stop, stored, with_bytes}
+use Rattle.arm_machine.specs.Access.{bytes_of, is_aligned, number_at, store_stop, with_bytes}
 use Rattle.arm_machine.specs.Blocks.{block_stop, is_push_block, loads_many, lowest, registers_of, stored_block, stores_many}
 use Rattle.arm_machine.specs.Transfers.{accessed, half_transfer, is_push, loads, stores, with_cpu, word_size, word_transfer}
 use Rattle.arm_machine.specs.Effects.{effect}

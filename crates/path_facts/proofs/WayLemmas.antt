@@ -1,5 +1,5 @@
 -- A step from a point without fault takes one of the point's ways.
-use Rattle.std.proofs.Common.{◌≡◌, ℕ, zero, suc, ◌%◌, ◌^◌, ◌<◌, ◌&&◌, Bool, true, false, cond, Contains, Option, Some, None, IfSome, Result}
+use Rattle.std.proofs.Common.{◌≡◌, ℕ, zero, suc, ◌^◌, ◌<◌, Bool, true, false, cond, Contains, Option, Some, None, IfSome, Result}
 use Rattle.std.proofs.Common.{Ok, Err, List, [], ◌∷◌, ◌++◌, length, slice_index_or, refl, sym, ap, ◌∙◌, subst, arith}
 use Rattle.std.proofs.lemmas.Bool.{false≢true}
 use Rattle.std.specs.List.{AllByRecursion}
@@ -19,7 +19,7 @@ use Rattle.control_flow.specs.Instructions.{decoded, instruction_at}
 use Rattle.control_flow.specs.Points.{Jump, Point, entry_point, is_recursive_call, jump_of, last_return, next_address, target, without_last}
 use Rattle.control_flow.specs.Routes.{IsHistory, Place, Taken, Way}
 use Rattle.control_flow.specs.Routes.Place.{At, Exit}
-use Rattle.control_flow.specs.Ways.{done_place, fault_at, fault_in, fault_of, jump_place, next_place, return_place, skipped_ways, ways_from}
+use Rattle.control_flow.specs.Ways.{done_place, fault_at, fault_in, fault_of, jump_place, next_place, return_place, ways_from}
 use Rattle.control_flow.specs.Ways.{ways_of, ways_to}
 use Rattle.arm_machine.specs.declared.events.Event.{Event}
 use Rattle.arm_machine.specs.States.{State}

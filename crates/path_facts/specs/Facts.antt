@@ -1,6 +1,6 @@
 -- Facts along a path: "this location holds that origin plus a constant", modulo 2^32.
 use Rattle.std.specs.Prelude.{◌≡◌, ℕ, ℤ, pos, neg_ℤ, ◌+ℤ◌, ◌+◌, ◌-◌, ◌*◌, ◌%◌, ◌^◌, ◌==◌, ◌&&◌, int_le, int_lt}
-use Rattle.std.specs.Prelude.{Bool, true, if◌then◌else◌, Option, Some, None, IfSome, IsSomeAnd, List, slice_index}
+use Rattle.std.specs.Prelude.{Bool, true, if◌then◌else◌, Option, Some, None, IsSomeAnd, List, slice_index}
 use Rattle.std.specs.Int.{int_wrap, w32}
 use Rattle.arm_cpu.specs.Registers.{signed_of}
 use Rattle.arm_machine.specs.declared.access.Size.TheVariants as size

@@ -8,7 +8,6 @@ use Rattle.elf32_image.specs.Bytes.{constant_at}
 use Rattle.arm_isa.specs.declared.instruction.Insn.{Insn}
 use Rattle.arm_isa.specs.declared.instruction.Op.{Op}
 use Rattle.arm_isa.specs.declared.instruction.Op.TheVariants as op
-use Rattle.arm_isa.specs.declared.instruction.WordTransfer.{WordTransfer}
 use Rattle.arm_isa.specs.Writes.{is_return_form}
 use Rattle.control_flow.specs.Instructions.{instruction_at}
 use Rattle.control_flow.specs.Points.{Point, entry_point, last_return}

@@ -3,3 +3,4 @@ pub mod Facts
 pub mod Histories
 pub mod Routes
 pub mod Sources
+pub mod StackUse

@@ -4,13 +4,11 @@
 -- chapter A4.
 use Rattle.std.specs.Prelude.{ℕ, ℤ, pos, neg_ℤ, ◌+ℤ◌, ◌+◌, ◌-◌, ◌*◌, ◌%◌, ◌/◌, ◌^◌, ◌==◌, ◌&&◌, ◌||◌, not, nat_le}
 use Rattle.std.specs.Prelude.{nat_lt}
-use Rattle.std.specs.Prelude.{Bool, true, false, if◌then◌else◌, Option, Some, None, List, [], ◌∷◌, count_ones, unsigned_abs}
+use Rattle.std.specs.Prelude.{Bool, true, false, if◌then◌else◌, Option, Some, None, List, [], ◌∷◌, count_ones}
+use Rattle.std.specs.Prelude.{unsigned_abs}
 use Rattle.std.specs.Int.{int_rem_euclid}
 use Rattle.arm_isa.specs.declared.instruction.Op.{Op}
 use Rattle.arm_isa.specs.declared.instruction.Op.TheVariants as op
-use Rattle.arm_isa.specs.declared.instruction.DataProcessing.{DataProcessing}
-use Rattle.arm_isa.specs.declared.instruction.WordTransfer.{WordTransfer}
-use Rattle.arm_isa.specs.declared.instruction.HalfTransfer.{HalfTransfer}
 use Rattle.arm_isa.specs.declared.instruction.BlockTransfer.{BlockTransfer}
 use Rattle.arm_isa.specs.declared.instruction.Operand.{Operand}
 use Rattle.arm_isa.specs.declared.instruction.Operand.TheVariants as operand

@@ -1,6 +1,6 @@
 //! What the facts of a path promise, and that runs follow the points of a function. Layers above cite these laws.
 
-ghost use Rattle.std.specs.Prelude.{◌≡◌, ◌<◌, ◌^◌, ℕ, List, Option, Some, IfSome, slice_index};
+ghost use Rattle.std.specs.Prelude.{◌≡◌, ◌<◌, ◌^◌, ℕ, List, None, Option, Some, IfSome, slice_index};
 ghost use Rattle.elf32_image.specs.Parts.{ImageValue};
 ghost use Rattle.arm_isa.specs.declared.instruction.Insn.{Insn};
 ghost use Rattle.arm_isa.specs.declared.instruction.Op.{Op};
@@ -8,6 +8,8 @@ ghost use Rattle.arm_isa.specs.Guarantees.{IsGuarded};
 ghost use Rattle.arm_isa.specs.Ranges.{IsOp};
 ghost use Rattle.fetch_timing.specs.declared.timing.Timing.{Timing};
 ghost use Rattle.control_flow.specs.Instructions.{instruction_at};
+ghost use Rattle.control_flow.specs.Points.{Point};
+ghost use Rattle.control_flow.specs.Ways.{IsCollected, fault_at};
 ghost use Rattle.arm_machine.specs.Effects.{effect};
 ghost use Rattle.arm_machine.specs.Laws.{IfDone, IfStep};
 ghost use Rattle.arm_machine.specs.Orderly.{HasConstants};
@@ -21,6 +23,7 @@ ghost use Rattle.path_facts.specs.Facts.{Facts, IsTrueOf, Location, Says, Source
 ghost use Rattle.path_facts.specs.Histories.{AreTrue, FactsHold, HasStack, IsFollowed, facts_after, literal_of};
 ghost use Rattle.path_facts.specs.Routes.{FollowsRoute};
 ghost use Rattle.path_facts.specs.Sources.{source_of};
+ghost use Rattle.path_facts.specs.StackUse.{IsReturnUnproved};
 
 /// Each instruction of an image lies in its ranges, and is none that decoding refuses.
 pub fn instructions_are_guarded()
@@ -62,6 +65,15 @@ pub fn runs_follow_routes()
     ensures { (image : ImageValue) (t : Timing) (entry stack : ℕ) (numbers : List RegisterValue) (s : State) (n c : ℕ)
         → entry < 2 ^ 32 → stack < 2 ^ 31 → IsFollowed image entry stack → IsStart image t entry stack numbers s
         → Returns image t (slice_index s.cpu.registers 14) s n c → FollowsRoute image t entry stack s n c }
+{}
+
+/// Where no point has a fault, runs are followed exactly where no return is unproved.
+pub fn followed_unless_returns_are_unproved()
+    ensures followed { (image : ImageValue) (entry stack : ℕ)
+        → ((p : Point) → IsCollected image entry p → fault_at image entry p ≡ None)
+        → ((p : Point) → IsReturnUnproved image entry stack p → ⊥) → IsFollowed image entry stack }
+    ensures proved { (image : ImageValue) (entry stack : ℕ) → IsFollowed image entry stack → (p : Point)
+        → IsReturnUnproved image entry stack p → ⊥ }
 {}
 
 /// The premises of `runs_follow_routes` can be met: a function that pushes, calls another one and returns meets them.

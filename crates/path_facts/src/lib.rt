@@ -8,6 +8,6 @@
 mod laws;
 
 pub use laws::{
-    an_example_is_followed, facts_hold_after_steps, instructions_are_guarded, runs_follow_routes,
-    sources_give_facts, values_have_their_sources,
+    an_example_is_followed, facts_hold_after_steps, followed_unless_returns_are_unproved,
+    instructions_are_guarded, runs_follow_routes, sources_give_facts, values_have_their_sources,
 };
