@@ -4,6 +4,7 @@ pub mod FactLemmas
 pub mod LiteralLemmas
 pub mod MarkLemmas
 pub mod NumberLemmas
+pub mod OffsetLemmas
 pub mod RegisterLemmas
 pub mod ReturnLemmas
 pub mod RouteLemmas

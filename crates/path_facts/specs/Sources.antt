@@ -33,7 +33,7 @@ use Rattle.path_facts.specs.Facts.Source.{Nothing, Constant, Sum, Copy, IfMarked
 abbrev pub register_source : ℕ → ℕ → ℤ → Source
 register_source a r by = if r == 15 then Constant (signed_of ((a + 8) % 2 ^ 32) +ℤ by) else Sum r by
 
--- MOV of a constant; ADD and SUB of a register and a constant
+-- MOV of a constant; ADD and SUB of a register and a constant, modulo 2^32 as facts are
 abbrev pub constant_source : ℕ → Opcode → ℕ → ℕ → Source
 constant_source a opcode.Mov rn value = Constant (signed_of value)
 constant_source a opcode.Add rn value = register_source a rn (signed_of value)
@@ -50,7 +50,7 @@ abbrev pub shifted_source : ℕ → Opcode → ℕ → Shift → Source
 shifted_source a code rm (shift.Lsl amount) = if amount == 0 then moved_source a code rm else Nothing
 shifted_source a code rm _ = Nothing
 
--- all other results of data processing aren't known
+-- all other results of data processing are no location plus a constant
 abbrev pub compute_source : ℕ → Opcode → ℕ → Operand → Source
 compute_source a code rn (operand.Value value rotated) = constant_source a code rn value
 compute_source a code rn (operand.Shifted rm by) = shifted_source a code rm by
@@ -90,22 +90,22 @@ is_at_word e k = (e + 4 * k) % 2 ^ 32 == 0
 abbrev pub word_at_offset : ℕ → ℕ
 word_at_offset e = (2 ^ 32 - e) / 4
 
--- a word that is loaded by r13
+-- a word that is loaded by r13: what its stack word held; between two words a load stops
 abbrev pub load_source : Option ℕ → Source
 load_source None = Nothing
 load_source (Some e) = if is_at_word e (word_at_offset e) then Copy (StackWord (word_at_offset e)) else Nothing
 
--- a written-back base
+-- a written-back base: the constant is added or subtracted; what a register adds isn't known
 abbrev pub base_source : Bool → ℕ → Offset → Source
 base_source up rn (by.Value c) = Sum rn (if up then pos c else neg_ℤ (pos c))
 base_source up rn (by.Shifted rm shift) = Nothing
 
--- a word of the image, which a load by r15 reads
+-- a word of the image, which a load by r15 reads: no program can write it
 abbrev pub literal_source : Option ℕ → Source
 literal_source None = Nothing
 literal_source (Some value) = Constant (signed_of value)
 
--- what a load of a word or byte brings: a byte isn't known
+-- what a load of a word or byte brings: of a byte, and by other bases, nothing is known
 abbrev pub loaded_source : Option ℕ → Option ℕ → Bool → ℕ → Source
 loaded_source literal at byte rn =
     if byte then Nothing
@@ -134,14 +134,15 @@ abbrev pub loads_source : Option ℕ → List ℕ → ℕ → Source → Source
 loads_source at [] r before = before
 loads_source at (q ∷ rs) r before = loads_source (next_offset at) rs r (if r == q then load_source at else before)
 
--- a base of LDM or STM
+-- a base of LDM or STM, written back by 4 bytes for each register
 abbrev pub block_base_source : BlockTransfer → ℕ → Source
 block_base_source this r =
     if this.write_back && (r == this.rn)
     then Sum this.rn (if this.up then pos (4 * count_ones this.list) else neg_ℤ (pos (4 * count_ones this.list)))
     else Copy (Register r)
 
--- a register that the instruction writes; `literal` is the image's word that a load by r15 reads
+-- A register that the instruction writes; `literal` is the image's word that a load by r15 reads. Products and loaded
+-- halfwords are no location plus a constant, and BL leaves the next address in r14.
 abbrev pub written_source : ℕ → Option ℕ → Option ℤ → Op → ℕ → Source
 written_source a literal offset (op.Compute this) r = compute_source a this.opcode this.rn this.operand
 written_source a literal offset (op.Multiply this) r = Nothing
@@ -159,13 +160,14 @@ written_source a literal offset (op.Block this) r =
 written_source a literal offset (op.Branch this) r = Constant (signed_of ((a + 4) % 2 ^ 32))
 written_source a literal offset (op.Exchange this) r = Nothing
 
--- a stack word after a register was stored at an offset, with its source without the store
+-- a stack word after a register was stored at an offset, with its source without the store; where the offset isn't
+-- known it may be any word's
 abbrev pub word_store_source : Option ℕ → ℕ → ℕ → Source → Source
 word_store_source None q k before = Nothing
 word_store_source (Some e) q k before =
     if is_at_word e k then Copy (Register q) else if touches e 4 k then Nothing else before
 
--- a stack word after other bytes were stored at an offset
+-- a stack word after other bytes were stored at an offset: where some of them stand in it, it isn't known any more
 abbrev pub bytes_store_source : Option ℕ → ℕ → ℕ → Source
 bytes_store_source None bytes k = Nothing
 bytes_store_source (Some e) bytes k = if touches e bytes k then Nothing else Copy (StackWord k)
@@ -175,7 +177,7 @@ abbrev pub stores_source : Option ℕ → List ℕ → ℕ → Source → Source
 stores_source at [] k before = before
 stores_source at (q ∷ rs) k before = stores_source (next_offset at) rs k (word_store_source at q k before)
 
--- A stack word. By another base than r13 only words without a mark are changed.
+-- A stack word. Loads change none, and nor do stores by another base than r13 to marked words: the machine stops there.
 abbrev pub stack_source : Option ℤ → Op → ℕ → Source
 stack_source offset (op.Word this) k =
     if this.load then Copy (StackWord k)
@@ -192,8 +194,8 @@ stack_source offset (op.Block this) k =
     else stores_source (block_offset offset this) (registers_of this.list) k (Copy (StackWord k))
 stack_source offset _ k = Copy (StackWord k)
 
--- the mark of a stack word after a store by r13: a push of a saved register sets it, any other store of its bytes takes
--- it
+-- The mark of a stack word after a store by r13, as the machine keeps words: a push of a saved register sets it, any
+-- other store of its bytes takes it, and where the offset isn't known it may be that word.
 abbrev pub mark_after_store : Option ℕ → ℕ → ℕ → Bool → Bool → Bool
 mark_after_store None bytes k saves before = false
 mark_after_store (Some e) bytes k saves before =

@@ -1,6 +1,8 @@
 //! What the facts of a path promise, and that runs follow the points of a function. Layers above cite these laws.
 
-ghost use Rattle.std.specs.Prelude.{◌≡◌, ◌<◌, ◌^◌, ℕ, List, None, Option, Some, IfSome, slice_index};
+ghost use Rattle.std.specs.Prelude.{◌≡◌, ◌<◌, ◌≤◌, ◌+◌, ◌*◌, ◌^◌, ℕ, List, None, Option, Some, IfSome, slice_index};
+ghost use Rattle.std.specs.Prelude.{ℤ, pos, neg_ℤ, ◌+ℤ◌, ◌-ℤ◌, ◌≤ℤ◌, ◌<ℤ◌, Bool, if◌then◌else◌};
+ghost use Rattle.std.specs.Ordering.{int_eq};
 ghost use Rattle.elf32_image.specs.Parts.{ImageValue};
 ghost use Rattle.arm_isa.specs.declared.instruction.Insn.{Insn};
 ghost use Rattle.arm_isa.specs.declared.instruction.Op.{Op};
@@ -21,8 +23,9 @@ ghost use Rattle.arm_machine.specs.Steps.{step};
 ghost use Rattle.path_facts.specs.Example.{example_image};
 ghost use Rattle.path_facts.specs.Facts.{Facts, IsTrueOf, Location, Says, Source, fact_from, offset_of, value_in};
 ghost use Rattle.path_facts.specs.Histories.{AreTrue, FactsHold, HasStack, IsFollowed, facts_after, literal_of};
+ghost use Rattle.path_facts.specs.Offsets.{StandsFor, touches_at};
 ghost use Rattle.path_facts.specs.Routes.{FollowsRoute};
-ghost use Rattle.path_facts.specs.Sources.{source_of};
+ghost use Rattle.path_facts.specs.Sources.{is_at_word, moved, residue, source_of, touches};
 ghost use Rattle.path_facts.specs.StackUse.{IsReturnUnproved};
 
 /// Each instruction of an image lies in its ranges, and is none that decoding refuses.
@@ -65,6 +68,19 @@ pub fn runs_follow_routes()
     ensures { (image : ImageValue) (t : Timing) (entry stack : ℕ) (numbers : List RegisterValue) (s : State) (n c : ℕ)
         → entry < 2 ^ 32 → stack < 2 ^ 31 → IsFollowed image entry stack → IsStart image t entry stack numbers s
         → Returns image t (slice_index s.cpu.registers 14) s n c → FollowsRoute image t entry stack s n c }
+{}
+
+/// Offsets from r13's start count modulo 2^32 in the table. Where they aren't far from 0, signed offsets move alike and
+/// touch the same words.
+pub fn offsets_touch_the_same_words()
+    ensures known { (o : ℤ) → neg_ℤ (pos (2 ^ 31)) ≤ℤ o → o <ℤ pos (2 ^ 31) → StandsFor (residue o) o }
+    ensures moved { (up : Bool) (e c : ℕ) (z : ℤ) → e < 2 ^ 32 → c < 2 ^ 12 → neg_ℤ (pos (2 ^ 31)) ≤ℤ z
+        → z <ℤ pos (2 ^ 31) → StandsFor e z → StandsFor (moved up e c) (if up then z +ℤ pos c else z -ℤ pos c) }
+    ensures touched { (e bytes k : ℕ) (z : ℤ) → e < 2 ^ 32 → 0 < bytes → bytes ≤ 4 → 4 * k ≤ 2 ^ 30
+        → neg_ℤ (pos (2 ^ 31 + 2 ^ 13)) ≤ℤ z → z ≤ℤ pos (2 ^ 31 + 2 ^ 13) → StandsFor e z
+        → touches e bytes k ≡ touches_at z bytes k }
+    ensures word { (e k : ℕ) (z : ℤ) → e < 2 ^ 32 → 4 * k ≤ 2 ^ 30 → neg_ℤ (pos (2 ^ 31 + 2 ^ 13)) ≤ℤ z
+        → z ≤ℤ pos (2 ^ 31 + 2 ^ 13) → StandsFor e z → is_at_word e k ≡ int_eq (z +ℤ pos (4 * k)) (pos 0) }
 {}
 
 /// Where no point has a fault, runs are followed exactly where no return is unproved.
