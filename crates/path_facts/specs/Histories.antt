@@ -66,7 +66,7 @@ start_fact (StackWord k) = None
 abbrev pub start_facts : Facts
 start_facts = record { fact = start_fact; marked = λ _. false }
 
--- the facts after a history, for a stack of so many bytes
+-- the facts after a history, by the number of bytes of the stack
 abbrev pub facts_of : ImageValue → ℕ → List (Taken Point) → Facts
 facts_of image stack [] = start_facts
 facts_of image stack (x ∷ h) =
