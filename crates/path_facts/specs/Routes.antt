@@ -50,8 +50,8 @@ StatesAlong image t P h s (x ∷ xs) =
     × ((next : State) × (event : Event) × (step image t s ≡ Next next event) × (event.done ≡ x.done)
     × StatesAlong image t P (x ∷ h) next xs)
 
--- The run from state s at point p, of n steps and c cycles, is a route from there out of the function, after the history h
--- that led there.
+-- The run from state s at point p, of n steps and c cycles, is a route from there out of the function, after the
+-- history h that led there.
 pub record IsRouteFrom (image : ImageValue) (t : Timing) (entry : ℕ) (P : List (Taken Point) → Point → State → Type 0)
     (h : List (Taken Point)) (p : Point) (s : State) (n c : ℕ) : Type 0 where
   pub route : List (Taken Point)
