@@ -16,8 +16,8 @@ use arm_cpu::{Cpu, Stop, shift_value};
 use arm_isa::{HalfKind, HalfTransfer, Index, Offset, WordTransfer};
 use elf32_image::Image;
 
-/// A load or store of one number: how many bytes, how a load fills them up, and where. Definitions of other crates speak
-/// of it.
+/// A load or store of one number: how many bytes, how a load fills them up, and where. Definitions of other crates
+/// speak of it.
 #[derive(Clone, Copy)]
 pub struct Transfer {
     /// Whether it loads.
