@@ -1,0 +1,15 @@
+pub mod BlockLemmas
+pub mod Example
+pub mod FactLemmas
+pub mod LiteralLemmas
+pub mod MarkLemmas
+pub mod NumberLemmas
+pub mod OffsetLemmas
+pub mod RegisterLemmas
+pub mod ReturnLemmas
+pub mod RouteLemmas
+pub mod RunLemmas
+pub mod StackLemmas
+pub mod StackUseLemmas
+pub mod StepLemmas
+pub mod WayLemmas
