@@ -313,3 +313,34 @@ lost = record {
   leads_too = (((refl, (0, omega arith, refl)), (0, omega arith, refl)), (0, omega arith, refl));
   differ = inr zero_isnt_lower;
 }
+
+-- MOV r4,r14; CMP r0,#0; BEQ 8010; BX r14; BL 8018; B 8014; MOV r14,r4; BX r14: the called return brings the function's own
+-- return address and not that of the call. From the point after the call control never leaves the function, but the
+-- return is unproved all the same.
+abbrev pruned_image : ImageValue
+pruned_image = record {
+  segments = record {
+    address = 0x8000;
+    bytes = 14 ∷ 64 ∷ 160 ∷ 225 ∷ 0 ∷ 0 ∷ 80 ∷ 227 ∷ 0 ∷ 0 ∷ 0 ∷ 10 ∷ 30 ∷ 255 ∷ 47 ∷ 225 ∷ 0 ∷ 0 ∷ 0 ∷ 235 ∷ 254 ∷ 255 ∷ 255 ∷ 234
+        ∷ 4 ∷ 224 ∷ 160 ∷ 225 ∷ 30 ∷ 255 ∷ 47 ∷ 225 ∷ [];
+    size = 32;
+    flags = 5;
+  } ∷ [];
+  functions = [];
+}
+
+start_isnt_return : ◌≡◌ {A = Option Fact} (Some (record { origin = AtStart 14; constant = pos 0 })) (Some (record {
+  origin = Zero;
+  constant = pos 0x8014;
+})) → ⊥
+start_isnt_return e = subst IsOfZero (sym e) tt
+
+pruned : IsReturnUnproved pruned_image 0x8000 4096 (point_at (0x8014 ∷ []) 0x801C)
+pruned = record {
+  insn = always (op.Exchange (record { rm = 14 }));
+  found = refl;
+  returns = refl;
+  history = done_at (0x8014 ∷ []) 0x8018 ∷ done_at [] 0x8010 ∷ done_at [] 0x8008 ∷ done_at [] 0x8004 ∷ done_at [] 0x8000 ∷ [];
+  leads = (((((refl, (0, omega arith, refl)), (0, omega arith, refl)), (0, omega arith, refl)), (0, omega arith, refl)), (0, omega arith, refl));
+  other = start_isnt_return;
+}
