@@ -1,0 +1,12 @@
+use Rattle.std.proofs.Common.{◌≡◌, ◌≤◌, ◌-◌, ℕ, [], length, get_or}
+use Rattle.point_order.proofs.families.empty_rows.Given as goal
+
+abbrev pub invariant-loop-alloc : goal.invariant-loop-alloc
+invariant-loop-alloc l =
+    record {
+      few : length l.rows.items ≤ l.count;
+      empty : (k : ℕ) → get_or l.rows.items k [] ≡ [];
+    }
+
+abbrev pub decreases-loop-alloc : goal.decreases-loop-alloc
+decreases-loop-alloc l = l.count - length l.rows.items
