@@ -8,6 +8,7 @@
 //! benchmarks image hold|read|name|walk|jump FILE TIMES
 //! benchmarks cache newest|other|miss SETS WAYS TIMES
 //! benchmarks run bare|probes TURNS
+//! benchmarks loops ladder|nests|tangle BLOCKS TIMES
 //! ```
 //!
 //! Without words it does what the lines of standard input say, each such words, and prints each line with its result.
@@ -19,6 +20,7 @@ mod decode;
 mod entails;
 mod image;
 mod multisets;
+mod nests;
 mod rows;
 mod runs;
 mod words;
@@ -38,7 +40,8 @@ fn done(rt: HostRuntime, words: &[String]) -> anyhow::Result<String> {
         "image" => image::done(rt, words),
         "cache" => cache::done(alloc, words),
         "run" => runs::done(alloc, words),
-        _ => bail!("usage: benchmarks multisets|rows|entails|decode|image|cache|run WORDS"),
+        "loops" => nests::done(alloc, words),
+        _ => bail!("usage: benchmarks multisets|rows|entails|decode|image|cache|run|loops WORDS"),
     }
 }
 
