@@ -14,8 +14,8 @@ pub record AreOpposite (only back : List (Option ℕ)) : Type 0 where
   pub backwards : (p q : ℕ) → Follows back q p → Follows only p q
   pub below : (p q : ℕ) → Follows only p q → q < length only
 
-abbrev pub tells : List Bool → ℕ → Bool
-tells flags i = get_or flags i false
+abbrev pub is_flagged : List Bool → ℕ → Bool
+is_flagged flags i = get_or flags i false
 
 -- the flagged numbers' chains
 pub record AreChains (only : List (Option ℕ)) (flag : ℕ → Bool) (bs : List (Chain ℕ)) : Type 0 where

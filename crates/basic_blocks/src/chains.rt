@@ -1,6 +1,6 @@
 //! Numbers of points cut into chains.
 ghost use Rattle.std.specs.Prelude.{◌≡◌, ℕ, ◌<◌, ◌^◌, ◌&&◌, get_or, None, is_none, IfOk, length};
-ghost use Rattle.basic_blocks.specs.Chains.{tells, Follows, AreOpposite, IsChainFrom, IsSplit};
+ghost use Rattle.basic_blocks.specs.Chains.{is_flagged, Follows, AreOpposite, IsChainFrom, IsSplit};
 
 use sqlite_items::Items;
 use std::alloc::{AllocError, Global};
@@ -33,7 +33,7 @@ pub fn chain_from(
 
 /// Whether a number is flagged.
 fn is_set(flags: &[bool], number: u32) -> bool
-    ensures { result ≡ tells flags.now number }
+    ensures { result ≡ is_flagged flags.now number }
 {
     match flags.get(number as usize) {
         Some(flag) => *flag,
@@ -44,7 +44,7 @@ fn is_set(flags: &[bool], number: u32) -> bool
 /// Whether a chain begins at a number: it is flagged and follows none.
 fn begins(back: &[Option<u32>], flags: &[bool], at: u32) -> bool
     requires { at < length back.now }
-    ensures { result ≡ tells flags.now at && is_none (get_or back.now at None) }
+    ensures { result ≡ is_flagged flags.now at && is_none (get_or back.now at None) }
 {
     is_set(flags, at) && back[at as usize].is_none()
 }
@@ -62,7 +62,7 @@ pub fn split(
 ) -> Result<Items<Items<u32>>, AllocError>
     requires opposite { AreOpposite only.now back.now }
     requires few { length only.now < 2 ^ 32 }
-    ensures { IfOk result (IsSplit only.now (tells flags.now)) }
+    ensures { IfOk result (IsSplit only.now (is_flagged flags.now)) }
 {
     let mut chains = Items::new(alloc);
     let mut at: u32 = 0;
