@@ -5,6 +5,7 @@ pub mod Lookups
 pub mod Making
 pub mod OrderLemmas
 pub mod PcLemmas
+pub mod ReturnLemmas
 pub mod RunLemmas
 pub mod StartCauses
 pub mod StartLaws

@@ -10,7 +10,7 @@ use Rattle.arm_machine.specs.States.{Bytes, State}
 use Rattle.arm_machine.specs.Access.{is_saved, loaded, store_stop, stored}
 use Rattle.arm_machine.specs.Blocks.{AreAligned, block_stop, first_of, listed_from, load_block, next_word, placed, registers_of, stored_block}
 
--- those from a register on: the register itself, if it is listed, and those behind it
+-- those from a register on: the register itself, if it is listed, and those after it
 unfoldable pub rest_of : ℕ → ℕ → List ℕ
 rest_of list r = listed_from list r (16 - r)
 

@@ -1,15 +1,19 @@
 -- What a store leaves in the memory, word by word, and why a store that goes through was allowed.
 use Rattle.std.proofs.Common.{◌≡◌, ◌≢◌, ℕ, ◌+◌, ◌*◌, ◌-◌, ◌/◌, ◌%◌, ◌^◌, ◌<◌, ◌≤◌, ◌⊎◌, ◌&&◌, not, Bool, true, false, cond, Option, Some}
-use Rattle.std.proofs.Common.{None}
+use Rattle.std.proofs.Common.{None, Result, Ok, Err}
 use Rattle.std.proofs.Common.{List, [], ◌∷◌, length, eqb, inl, inr, refl, sym, ap, ◌∙◌, subst, arith}
 use Rattle.std.specs.Prelude.{is_some}
 use Rattle.std.specs.List.{list_any}
 use Rattle.std.proofs.lemmas.Bool.{eqb-true, false≢true, eq-eqb, ne_eqb}
 use Rattle.elf32_image.specs.Parts.{ImageValue}
+use Rattle.arm_isa.specs.declared.instruction.BlockTransfer.{BlockTransfer}
+use Rattle.arm_isa.specs.declared.instruction.Op.{Op}
+use Rattle.arm_isa.specs.declared.instruction.Op.TheVariants as op
 use Rattle.arm_cpu.specs.declared.cpu.Cpu.{Cpu}
 use Rattle.arm_cpu.specs.declared.stops.Stop.{Stop}
 use Rattle.arm_cpu.specs.declared.stops.Stop.TheVariants as stop
-use Rattle.arm_cpu.specs.Registers.{read}
+use Rattle.arm_cpu.specs.Registers.{advanced, jumped, read}
+use Rattle.arm_cpu.specs.Sums.{computes}
 use Rattle.arm_machine.specs.declared.access.Size.{Size}
 use Rattle.std.proofs.lemmas.Bool.Decides.{nat_tests}
 use Rattle.std.specs.Cmp.{nat_cmp_total, unsigned_tied}
@@ -19,8 +23,13 @@ use Rattle.arm_machine.specs.declared.access.Size.TheVariants as size
 use Rattle.arm_machine.specs.States.{Bytes, State}
 use Rattle.arm_machine.specs.Access.{bytes_of, is_aligned, is_kept, is_read_only, is_saved, number_at, store_stop, stored, with_bytes}
 use Rattle.arm_machine.specs.Access.{word_holding}
-use Rattle.arm_machine.specs.Blocks.{block_stop, first_of, next_word, stored_block}
-use Rattle.arm_machine.specs.Laws.{Holds, IsAllowed}
+use Rattle.arm_machine.specs.declared.transfers.Transfer.{Transfer}
+use Rattle.arm_machine.specs.Transfers.{accessed, half_transfer, is_push, loads, rebased, stores, transfers, unless_stopped, with_cpu}
+use Rattle.arm_machine.specs.Transfers.{word_transfer}
+use Rattle.arm_machine.specs.Blocks.{block_stop, first_of, is_push_block, loads_many, lowest, next_word, rebased_block, registers_of}
+use Rattle.arm_machine.specs.Blocks.{stored_block, stores_many, transfers_many}
+use Rattle.arm_machine.specs.Effects.{effect}
+use Rattle.arm_machine.specs.Laws.{Holds, IfDone, IsAllowed, store_base}
 
 -- one byte that is written
 pub byte_after : (m : Bytes) (a b q : ℕ) → get (insert m a b) q ≡ cond (eqb q a) (Some b) (get m q)
@@ -155,3 +164,57 @@ block_kept image cpu m kept base q saves other x holds (r ∷ rs) t a none =
     block_kept image cpu m kept base q saves other x holds rs (stored t base size.Word a (read cpu r) (saves && is_saved r))
     (next_word a) parts.1
     ∙ other_word t.memory size.Word a (read cpu r) q may.aligned x (kept_apart kept a q (free_by base _ other may.free) holds)
+
+-- what a done instruction does whole
+unless_kept : (s next : State) (o : Option Stop) (q : ℕ) → (o ≡ None → number_at next.memory size.Word q ≡ number_at s.memory size.Word q)
+    → IfDone (unless_stopped o next) (λ t. number_at t.memory size.Word q ≡ number_at s.memory size.Word q)
+unless_kept s next None q h = h refl
+unless_kept s next (Some why) q h = tt
+
+with_cpu_kept : (s : State) (outcome : Result Cpu Stop) (q : ℕ)
+    → IfDone (with_cpu s outcome) (λ t. number_at t.memory size.Word q ≡ number_at s.memory size.Word q)
+with_cpu_kept s (Ok cpu) q = refl
+with_cpu_kept s (Err why) q = tt
+
+other_base : (load : Bool) (rn : ℕ) → load ≡ false → cond load None (Some rn) ≢ Some 13 → eqb rn 13 ≡ false
+other_base true rn off other = absurd (false≢true (sym off))
+other_base false rn off other = ne_eqb rn 13 (λ e. other (ap (λ (n : ℕ). Some n) e))
+
+transfer_kept : (image : ImageValue) (s : State) (this : Transfer) (q : ℕ) → cond this.load None (Some this.rn) ≢ Some 13 → q % 4 ≡ 0
+    → Holds q s.kept → IfDone (transfers image s this) (λ t. number_at t.memory size.Word q ≡ number_at s.memory size.Word q)
+transfer_kept image s this q other x holds = by_load this.load refl
+  where
+    by_load : (load : Bool) → this.load ≡ load → IfDone (cond load (with_cpu s (loads s.cpu s.memory this)) (stores image s this))
+        (λ t. number_at t.memory size.Word q ≡ number_at s.memory size.Word q)
+    by_load true is = with_cpu_kept s (loads s.cpu s.memory this) q
+    by_load false is =
+        let a = accessed s.cpu this in
+        unless_kept s (record (stored s this.rn this.size a (read s.cpu this.rd) (is_push this)) { cpu = advanced (rebased s.cpu this) })
+        (store_stop image s.memory s.kept this.rn this.size a) q (λ none.
+        kept_stays image s this.size this.rn a (read s.cpu this.rd) (is_push this) q (other_base this.load this.rn is other) none x holds)
+
+many_kept : (image : ImageValue) (s : State) (this : BlockTransfer) (q : ℕ) → cond this.load None (Some this.rn) ≢ Some 13 → q % 4 ≡ 0
+    → Holds q s.kept → IfDone (transfers_many image s this) (λ t. number_at t.memory size.Word q ≡ number_at s.memory size.Word q)
+many_kept image s this q other x holds = by_load this.load refl
+  where
+    by_load : (load : Bool) → this.load ≡ load → IfDone (cond load (with_cpu s (loads_many s.cpu s.memory this)) (stores_many image s this))
+        (λ t. number_at t.memory size.Word q ≡ number_at s.memory size.Word q)
+    by_load true is = with_cpu_kept s (loads_many s.cpu s.memory this) q
+    by_load false is =
+        let a = lowest s.cpu this in
+        unless_kept s
+        (record (stored_block s.cpu s this.rn a (is_push_block this) (registers_of this.list)) { cpu = advanced (rebased_block s.cpu this) })
+        (block_stop image s.memory s.kept this.rn a (registers_of this.list)) q (λ none.
+        block_kept image s.cpu s.memory s.kept this.rn q (is_push_block this) (other_base this.load this.rn is other) x holds
+        (registers_of this.list) s a none)
+
+pub effect_kept : (image : ImageValue) (s : State) (o : Op) (q : ℕ) → store_base o ≢ Some 13 → q % 4 ≡ 0 → Holds q s.kept
+    → IfDone (effect image s o) (λ t. number_at t.memory size.Word q ≡ number_at s.memory size.Word q)
+effect_kept image s (op.Compute this) q other x holds = with_cpu_kept s (computes s.cpu this) q
+effect_kept image s (op.Multiply this) q other x holds = refl
+effect_kept image s (op.MultiplyLong this) q other x holds = refl
+effect_kept image s (op.Word this) q other x holds = transfer_kept image s (word_transfer this) q other x holds
+effect_kept image s (op.Half this) q other x holds = transfer_kept image s (half_transfer this) q other x holds
+effect_kept image s (op.Block this) q other x holds = many_kept image s this q other x holds
+effect_kept image s (op.Branch this) q other x holds = refl
+effect_kept image s (op.Exchange this) q other x holds = with_cpu_kept s (jumped s.cpu (read s.cpu this.rm)) q

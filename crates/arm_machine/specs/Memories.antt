@@ -7,7 +7,7 @@ use Rattle.elf32_image.specs.Parts.{ImageValue, Segment}
 use Rattle.elf32_image.specs.Bytes.{byte_at, byte_of}
 use Rattle.arm_machine.specs.States.{Bytes}
 
--- the bytes of a segment from an address on, so many
+-- the first n bytes of a segment from an address on
 abbrev pub entries_from : Segment → ℕ → ℕ → List (ℕ × ℕ)
 entries_from segment a zero = []
 entries_from segment a (suc n) = (a, byte_of segment a) ∷ entries_from segment (a + 1) n
@@ -15,7 +15,7 @@ entries_from segment a (suc n) = (a, byte_of segment a) ∷ entries_from segment
 unfoldable pub segment_entries : Segment → List (ℕ × ℕ)
 segment_entries segment = entries_from segment segment.address segment.size
 
--- so many zeros from an address on, which go on at 0 behind the last address
+-- n zeros from an address on, which go on at 0 after the last address
 abbrev pub zeros_from : ℕ → ℕ → List (ℕ × ℕ)
 zeros_from a zero = []
 zeros_from a (suc n) = (a, 0) ∷ zeros_from ((a + 1) % 2 ^ 32) n

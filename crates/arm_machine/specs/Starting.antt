@@ -21,7 +21,7 @@ home = 0xFFFFFFFC
 abbrev pub is_in_range : ℕ → ℕ → Bool
 is_in_range sp stack = int_le (pos stack -ℤ pos (2 ^ 31)) (signed_of sp) && int_le (signed_of sp) (pos (2 ^ 31 - 65))
 
--- one of so many bytes from an address on, modulo 2^32, is loaded
+-- one of n bytes from an address on, modulo 2^32, is loaded
 abbrev pub is_any_loaded : ImageValue → ℕ → ℕ → Bool
 is_any_loaded image a zero = false
 is_any_loaded image a (suc n) = is_some (byte_at image a) || is_any_loaded image ((a + 1) % 2 ^ 32) n

@@ -16,7 +16,7 @@ abbrev pub HasNumbers : List ℕ → List RegisterValue → Type 0
 HasNumbers registers [] = Unit {0}
 HasNumbers registers (p ∷ numbers) = (signed_of (slice_index registers p.register) ≡ p.value) × HasNumbers registers numbers
 
--- a start state of the function at an address, with a stack of so many bytes and these numbers of its parameters
+-- a start state of the function at an address, with a stack of this number of bytes and these numbers of its parameters
 pub record IsStart (image : ImageValue) (t : Timing) (entry stack : ℕ) (numbers : List RegisterValue) (s : State) : Type 0 where
   pub at_entry : s.cpu.pc ≡ entry
   pub all_registers : length s.cpu.registers ≡ 15

@@ -7,7 +7,7 @@ ghost use Rattle.arm_isa.specs.declared.instruction.Insn.{Insn};
 ghost use Rattle.arm_isa.specs.declared.instruction.Op.{Op};
 ghost use Rattle.arm_isa.specs.Conditions.{condition_passes};
 ghost use Rattle.arm_isa.specs.Ranges.{IsOp};
-ghost use Rattle.arm_isa.specs.Writes.{op_writes};
+ghost use Rattle.arm_isa.specs.Writes.{op_returns, op_writes};
 ghost use Rattle.fetch_timing.specs.declared.timing.Timing.{Timing};
 ghost use Rattle.control_flow.specs.Instructions.{instruction_at};
 ghost use Rattle.control_flow.specs.Points.{Jump, jump_of, target};
@@ -17,7 +17,7 @@ ghost use Rattle.arm_machine.specs.declared.access.Size.TheVariants as size;
 ghost use Rattle.arm_machine.specs.Access.{bytes_of, number_at, store_stop, stored, with_bytes, word_holding};
 ghost use Rattle.arm_machine.specs.Access.{is_aligned};
 ghost use Rattle.arm_machine.specs.Effects.{effect};
-ghost use Rattle.arm_machine.specs.Laws.{Holds, IfDone, IfStep, IsAllowed, Stays};
+ghost use Rattle.arm_machine.specs.Laws.{Holds, IfDone, IfStep, IsAllowed, Stays, brought, store_base};
 ghost use Rattle.arm_machine.specs.Orderly.{HasConstants, IsOrderly};
 ghost use Rattle.arm_machine.specs.Runs.{IsRunOf, Returns};
 ghost use Rattle.arm_machine.specs.States.{Bytes, State};
@@ -88,12 +88,22 @@ pub fn done_stores_are_allowed()
         → store_stop image memory kept base width a ≡ None → IsAllowed image kept base width a }
 {}
 
-/// A kept word is changed by no store but one by r13: any other stops.
+/// A kept word is changed by no store but one by r13: any other stops. That is said of one store, and of what a done
+/// instruction does whole.
+#[tactic(auto, using(crate::proofs::StoreLemmas::kept_stays))]
 pub fn kept_words_stay()
-    ensures { (image : ImageValue) (s : State) (width : Size) (base a v : ℕ) (saves : Bool) (q : ℕ) → (base == 13)
+    ensures store { (image : ImageValue) (s : State) (width : Size) (base a v : ℕ) (saves : Bool) (q : ℕ) → (base == 13)
         ≡ false
         → store_stop image s.memory s.kept base width a ≡ None → q % 4 ≡ 0 → Holds q s.kept
         → number_at (stored s base width a v saves).memory size.Word q ≡ number_at s.memory size.Word q }
+    ensures effect { (image : ImageValue) (s : State) (o : Op) (q : ℕ) → store_base o ≢ Some 13 → q % 4 ≡ 0 → Holds q s.kept
+        → IfDone (effect image s o) (λ next. number_at next.memory size.Word q ≡ number_at s.memory size.Word q) }
+{}
+
+/// An instruction that returns brings to pc what register 14 holds, or a word of the stack.
+pub fn returns_bring_their_word()
+    ensures { (image : ImageValue) (s : State) (o : Op) → IsOrderly s → op_returns o ≡ true
+        → IfDone (effect image s o) (λ next. brought s o ≡ Some next.cpu.pc) }
 {}
 
 /// A returning run by its numbers of steps and cycles is a list of steps whose cycles add up.

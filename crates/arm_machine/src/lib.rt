@@ -22,8 +22,9 @@ pub use events::Event;
 pub use laws::{
     branches_go_to_their_target, constants_stay, done_stores_are_allowed, kept_words_stay,
     order_stays, other_words_stay, others_go_on, others_stay, returning_runs_are_lists,
-    steps_are_charged, stored_words_are_there,
+    returns_bring_their_word, steps_are_charged, stored_words_are_there,
 };
 pub use machine::Machine;
 pub use start::{RegisterValue, StartRefusal};
 pub use stops::StepEnd;
+pub use transfers::Transfer;

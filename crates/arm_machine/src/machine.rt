@@ -90,7 +90,7 @@ impl<'a> Machine<'a> {
         }
     }
 
-    /// Makes a step, and tells what can be seen of it; it costs at most 18,000,000 cycles. After an error the
+    /// Makes a step, and gives what can be seen of it; it costs at most 18,000,000 cycles. After an error the
     /// machine is as before.
     ///
     /// # Errors

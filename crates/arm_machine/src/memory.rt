@@ -98,7 +98,7 @@ impl<'a> Memory<'a> {
         }
     }
 
-    /// Makes room for so many bytes.
+    /// Makes room for a number of bytes.
     pub(crate) fn reserve(&mut self, bytes: usize) -> Result<(), AllocError>
         ensures ok { OnOk result (bytes ≤ self.new.room) }
         ensures bytes { self.new.bytes ≡ self.old.bytes }

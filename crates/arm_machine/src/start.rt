@@ -50,7 +50,7 @@ pub enum StartRefusal {
     ReturnLoaded,
 }
 
-/// The first cause, if there is one, why a run can't start with this stack pointer and so many bytes of stack.
+/// The first cause, if there is one, why a run can't start with this stack pointer and size of the stack in bytes.
 pub(crate) fn bad_start(image: &Image, sp: u32, stack: u32) -> Option<StartRefusal>
     requires { stack ≤ 1048576 }
     ensures { result ≡ bad_start image.now sp stack }
@@ -77,7 +77,7 @@ fn is_in_range(sp: u32, stack: u32) -> bool
     i64::from(stack) - (1 << 31) <= sp && sp <= (1 << 31) - 65
 }
 
-/// Whether one of so many bytes from an address on, modulo 2^32, is loaded.
+/// Whether one of a number of bytes from an address on, modulo 2^32, is loaded.
 fn is_any_loaded(image: &Image, address: u32, count: u32) -> bool
     ensures { result ≡ is_any_loaded image.now address count }
 {

@@ -35,7 +35,7 @@ pub(crate) struct Store {
 }
 
 impl<'a> MachineState<'a> {
-    /// Makes room for so many stores. It changes nothing else.
+    /// Makes room for a number of stores. It changes nothing else.
     pub(crate) fn reserve(&mut self, stores: usize) -> Result<(), AllocError>
         requires { stores < 2 ^ 32 }
         ensures state { state_of self.new ≡ state_of self.old }

@@ -74,7 +74,7 @@ fn outcome_of(
     }
 }
 
-/// Fetches the instruction's line, takes the marks below the stack pointer, and tells what the step was.
+/// Fetches the instruction's line, takes the marks below the stack pointer, and gives what the step was.
 fn settle(
     state: &mut MachineState<'_>,
     timing: &Timing,

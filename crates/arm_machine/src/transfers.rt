@@ -16,16 +16,24 @@ use arm_cpu::{Cpu, Stop, shift_value};
 use arm_isa::{HalfKind, HalfTransfer, Index, Offset, WordTransfer};
 use elf32_image::Image;
 
-/// A load or store of one number: how many bytes, how a load fills them up, and where.
+/// A load or store of one number, of a word, a byte or a half-word (ARM Architecture Reference Manual, A5.2 and A5.3).
 #[derive(Clone, Copy)]
-pub(crate) struct Transfer {
+pub struct Transfer {
+    /// A load, and else a store.
     pub load: bool,
+    /// The number of bytes.
     pub size: Size,
+    /// How a load fills the register above its number; `Half` fills it with zeros.
     pub kind: HalfKind,
+    /// Whether the offset counts before or after the access, and whether the base gets the changed address.
     pub index: Index,
+    /// The offset is added to the base, and else subtracted.
     pub up: bool,
+    /// The base register, 0 to 15.
     pub rn: u8,
+    /// The register that is loaded or stored, 0 to 15.
     pub rd: u8,
+    /// The offset, in bytes.
     pub offset: Offset,
 }
 

@@ -19,7 +19,7 @@ data Outcome : Type 0 where
   Bad : (cause : StartRefusal) → Outcome
   Ended : (end : RunEnd) → Outcome
 
--- the refusal that tells it, and none but for memory where it has returned
+-- the refusal that says it, and none but for memory where it has returned
 abbrev refusal_of : Outcome → RunRefusal
 refusal_of (Bad cause) = unstarted cause
 refusal_of (Ended (end.Returned steps cycles)) = refusal.Memory

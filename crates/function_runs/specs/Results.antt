@@ -39,7 +39,7 @@ pub record Ends (run : FunctionRun) (end : RunEnd) (now : List Standing) : Type 
   pub starts : bad_start run.image run.setup.sp run.setup.stack ≡ None
   pub runs : (new : MachineValue) × (events : List Event) × Ran (first_machine run) new run.setup.steps run.probes now end events
 
--- The function returns after so many steps of so many cycles, by the machine's definition, and the run ends so, with these
+-- The function returns after this number of steps, of this number of cycles, by the machine's definition, and the run ends so, with these
 -- tallies.
 pub record IsResult (run : FunctionRun) (steps cycles : ℕ) (tallies : List ℕ) : Type 0 where
   pub returns : Returns run.image run.timing home (first_state run) steps cycles

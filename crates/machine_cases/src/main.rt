@@ -2,7 +2,7 @@
 //!
 //! A segment is ADDRESS:FLAGS:BYTES, where the flags are 1 to execute, 2 to write and 4 to read, and all numbers are
 //! hexadecimal. The machine starts at ENTRY with this stack, and with FIRST in r0 and FOURTH in r3. Of a `step` is shown
-//! what the last of so many steps was, and all registers after it; of a `run`, which may take so many steps, how it
+//! what the last of a number of steps was, and all registers after it; of a `run`, which may take a number of steps, how it
 //! ended, and r0. The timing is the one where all costs a cycle and a miss ten.
 #![tactic(auto)]
 
@@ -98,7 +98,7 @@ struct Course {
     stop: Option<StepEnd>,
 }
 
-/// Makes at most so many steps.
+/// Makes at most a number of steps.
 fn make_steps(machine: &mut Machine<'_>, most: u32) -> Course {
     let mut course = Course {
         steps: 0,

@@ -34,8 +34,8 @@ ends_there : (k : Task) (before : List Event) (s u : State) (x : RunEnd) → u �
 ends_there k before s u x same ends =
     subst (λ (v : State). end_after k before v ≡ Some x) same (subst (λ (es : List Event). end_after k es u ≡ Some x) (append-nil before) ends)
 
-behind : (k : Task) (before events : List Event) (e : Event) (u : State) (x : RunEnd) → end_after k (before ++ e ∷ events) u ≡ Some x → end_after k ((before ++ e ∷ []) ++ events) u ≡ Some x
-behind k before events e u x ends = subst (λ (es : List Event). end_after k es u ≡ Some x) (sym (append_assoc before (e ∷ []) events)) ends
+later_end : (k : Task) (before events : List Event) (e : Event) (u : State) (x : RunEnd) → end_after k (before ++ e ∷ events) u ≡ Some x → end_after k ((before ++ e ∷ []) ++ events) u ≡ Some x
+later_end k before events e u x ends = subst (λ (es : List Event). end_after k es u ≡ Some x) (sym (append_assoc before (e ∷ []) events)) ends
 
 longer : (e f : Event) (es fs : List Event) → e ≡ f → es ≡ fs → e ∷ es ≡ f ∷ fs
 longer e f es fs same rest = cc
@@ -51,7 +51,7 @@ same_events k before (e ∷ es) (f ∷ fs) s u v x y one other ends stops =
     subst (λ (n : State). Goes k (before ++ e ∷ []) n fs v) (sym step.0)
     (subst (λ (g : Event). Goes k (before ++ g ∷ []) other.1.0 fs v) (sym step.1) other.1.2) in
     let there : end_after k (before ++ e ∷ fs) v ≡ Some y = subst (λ (g : Event). end_after k (before ++ g ∷ fs) v ≡ Some y) (sym step.1) stops in
-    let rest = same_events k (before ++ e ∷ []) es fs one.1.0 u v x y one.1.2 here (behind k before es e u x ends) (behind k before fs e v y there) in
+    let rest = same_events k (before ++ e ∷ []) es fs one.1.0 u v x y one.1.2 here (later_end k before es e u x ends) (later_end k before fs e v y there) in
     (longer e f es fs step.1 rest.0, rest.1)
 
 -- an end that isn't one for want of memory is the one that is due

@@ -9,7 +9,7 @@ use Rattle.elf32_image.specs.Parts.{ImageValue}
 use Rattle.fetch_timing.specs.declared.timing.Timing.{Timing}
 use Rattle.arm_machine.specs.declared.events.Event.{Event}
 use Rattle.arm_machine.specs.Machines.{MachineValue}
-use Rattle.arm_machine.specs.Runs.{IfNext, Returns}
+use Rattle.arm_machine.specs.Runs.{IfNext, Returns, RunsHome, Stepped}
 use Rattle.arm_machine.specs.Starting.{home}
 use Rattle.arm_machine.specs.States.{State}
 use Rattle.arm_machine.specs.Steps.{Outcome, step}
@@ -73,7 +73,7 @@ pub record IsUnderway (old now : MachineValue) (steps : ℕ) (before probes : Li
 pub begins : (m : MachineValue) (steps : ℕ) (probes : List Standing) → (events : List Event) × IsUnderway m m steps probes probes events 0 0
 begins m steps probes = ([], record { machine = refl; goes = refl; tallies = after_none probes; unhalted = refl; many = refl; cycles = refl; short = tt })
 
--- The event of a step that is shown comes behind the others.
+-- The event of a step that is shown comes after the others.
 record IsShown (old new : MachineValue) (steps : ℕ) (before probes : List Standing) (events : List Event) : Type 0 where
   machine : new ≡ record old { state = new.state }
   goes : Goes (task_of old steps before) [] old.state events new.state
@@ -170,6 +170,19 @@ goes_home image t steps probes before (e ∷ events) s u goes is =
           (all_cycles events, sum_by-cons (λ (x : Event). x.cycles) e events, rest),
     )
 
+-- events that lead home are those of a returning run's list of steps
+list_home : (image : ImageValue) (t : Timing) (steps : ℕ) (probes : List Standing) (before events : List Event) (s u : State)
+    → Goes (record { step = step image t; steps = steps; probes = probes }) before s events u → u.cpu.pc ≡ home
+    → (xs : List Stepped) × RunsHome image t home s xs × (map (λ x. x.event) xs ≡ events)
+list_home image t steps probes before [] s u goes is = ([], subst (λ (v : State). v.cpu.pc ≡ home) goes is, refl)
+list_home image t steps probes before (e ∷ events) s u goes is =
+    let k : Task = record { step = step image t; steps = steps; probes = probes } in
+    let rest = list_home image t steps probes (before ++ e ∷ []) events goes.1.0 u goes.1.2 is in (
+      record { from = s; event = e } ∷ rest.0,
+      (refl, away k before s goes.0, (goes.1.0, goes.1.1, rest.1)),
+      ap (λ (es : List Event). e ∷ es) rest.2,
+    )
+
 returned_by : (h : Option ℕ) (b spent : Bool) (len cyc a : ℕ) (o : Outcome) (n c : ℕ) → option_or (option_or (option_map (λ place. end.Halted place) h) (cond b (Some (end.Returned len cyc)) (cond spent (Some end.Spent) None))) (end_by_step o a) ≡ Some (end.Returned n c) → (b ≡ true) × (len ≡ n) × (cyc ≡ c)
 returned_by (Some place) b spent len cyc a o n c is = cc
 returned_by None true spent len cyc a o n c is = (refl, cc, cc)
@@ -190,6 +203,18 @@ ran_returns old now steps before probes (end.Stopped stop a) events ran = tt
 ran_returns old now steps before probes (end.Halted place) events ran = tt
 ran_returns old now steps before probes end.Spent events ran = tt
 ran_returns old now steps before probes end.Memory events ran = tt
+
+-- the list of steps of a run that has returned
+pub ran_lists : (old now : MachineValue) (steps n c : ℕ) (before probes : List Standing) (events : List Event)
+    → Ran old now steps before probes (end.Returned n c) events
+    → (xs : List Stepped) × RunsHome old.image old.timing home old.state xs × (map (λ x. x.event) xs ≡ events)
+    × (length events ≡ n) × (all_cycles events ≡ c)
+ran_lists old now steps n c before probes events ran =
+    let k : Task = task_of old steps before in
+    let by = returned_by (halting before events) (now.state.cpu.pc == home) (length events == steps) (length events)
+    (all_cycles events) now.state.cpu.pc (k.step now.state) n c ran.ends in
+    let list = list_home old.image old.timing steps before [] events old.state now.state ran.goes (eqb-true now.state.cpu.pc home by.0) in
+    (list.0, list.1, list.2, by.1, by.2)
 
 pub returned_now : (old now : MachineValue) (steps : ℕ) (before probes : List Standing) (events : List Event) (done spent : ℕ) → IsUnderway old now steps before probes events done spent → (now.state.cpu.pc == home) ≡ true → Ran old now steps before probes (end.Returned done spent) events
 returned_now old now steps before probes events done spent so back =

@@ -7,7 +7,7 @@ use Rattle.machine_probe.specs.declared.running.RunEnd.TheVariants as end
 use Rattle.machine_probe.specs.ProbedRuns.{Ran}
 use Rattle.machine_probe.specs.Weights.{Standing}
 
--- Two runs of this machine, with so many steps allowed and these probes, of which neither ends for want of memory, end alike:
+-- Two runs of this machine, with one number of steps allowed and these probes, of which neither ends for want of memory, end alike:
 -- for the same reason, with the probes and the machine in the same state.
 abbrev pub AgreeOn : MachineValue → ℕ → List Standing → Type 0
 AgreeOn old steps before =

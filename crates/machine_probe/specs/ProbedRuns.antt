@@ -90,7 +90,7 @@ pub record Shows (outcome : Outcome) (old new : MachineValue) (before now : List
   pub tallies : now ≡ map (seen e) before
   pub limit : e.cycles ≤ 18000000
 
--- What one step of a run does: it tells what the step cost where the run may go on, and else how the run ends.
+-- What one step of a run does: it gives what the step cost where the run may go on, and else how the run ends.
 abbrev pub Advances : Outcome → MachineValue → MachineValue → List Standing → List Standing → Result ℕ RunEnd → Type 0
 Advances outcome old new before now (Ok cycles) =
     (e : Event) × Shows outcome old new before now e × (cycles ≡ e.cycles) × (position is_over now ≡ None)

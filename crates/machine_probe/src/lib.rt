@@ -6,7 +6,7 @@ mod probing;
 mod rules;
 mod running;
 
-pub use laws::runs_agree;
+pub use laws::{returned_runs_are_lists, runs_agree};
 pub use probing::{Counter, Probe};
 pub use rules::{Go, Rule, Weigh};
 pub use running::{RunEnd, run};

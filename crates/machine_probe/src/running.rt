@@ -14,7 +14,7 @@ use arm_machine::{Event, Machine, StepEnd, Stop};
 /// How a run ends.
 #[derive(Clone, Copy, Debug)]
 pub enum RunEnd {
-    /// The machine stands at the return address, after so many steps of so many cycles together.
+    /// The machine stands at the return address, after this number of steps, of this number of cycles together.
     Returned {
         /// The steps of this run.
         steps: u64,
@@ -39,7 +39,7 @@ pub enum RunEnd {
     Memory,
 }
 
-/// Shows an event to a probe, and tells whether it answers `Stop`.
+/// Shows an event to a probe, and says whether it answers `Stop`.
 fn show_one(probe: &mut Box<dyn Probe>, event: &Event) -> bool
     requires { (standing probe.old).tally < 2 ^ 127 }
 
@@ -52,7 +52,7 @@ fn show_one(probe: &mut Box<dyn Probe>, event: &Event) -> bool
     }
 }
 
-/// Shows an event to all probes, and tells whether one of them answers `Stop`.
+/// Shows an event to all probes, and says whether one of them answers `Stop`.
 fn show(probes: &mut [Box<dyn Probe>], event: &Event) -> bool
     requires { HaveRoom (map standing probes.old) }
 
@@ -98,7 +98,7 @@ fn first_over(probes: &[Box<dyn Probe>]) -> Option<u32>
     first
 }
 
-/// Shows an event to all probes, and tells the least place of one that answers `Stop`.
+/// Shows an event to all probes, and gives the least place of one that answers `Stop`.
 fn halting(probes: &mut Vec<Box<dyn Probe>>, event: &Event) -> Option<u32>
     requires few { length probes.old.items < 2 ^ 32 }
     requires small { HaveRoom (map standing probes.old.items) }
@@ -151,14 +151,14 @@ fn advance(machine: &mut Machine<'_>, probes: &mut Vec<Box<dyn Probe>>) -> Resul
     }
 }
 
-/// Runs a machine for at most so many steps, and shows each step's event to all probes, in their order.
+/// Runs a machine for at most `steps` steps, and shows each step's event to all probes, in their order.
 ///
 /// There are fewer than 2^32 probes, each with a tally of at most 2^126. Before each step it is tested whether the
 /// machine has returned, and then whether all the steps are made. The run ends at once by an event to which some
 /// probe answers `Stop`, also where its step returned or was the last allowed one; all probes have seen it then. It
 /// takes memory only for what the steps write, and where that is refused the run ends before that step.
 ///
-/// What it tells is of this run alone: a second run with the same machine and probes goes on where the first ended.
+/// What it answers is of this run alone: a second run with the same machine and probes goes on where the first ended.
 pub fn run(machine: &mut Machine<'_>, steps: u64, probes: &mut Vec<Box<dyn Probe>>) -> RunEnd
     requires few { length probes.old.items < 2 ^ 32 }
     requires tallies { AreReady (map standing probes.old.items) }

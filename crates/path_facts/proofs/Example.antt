@@ -27,7 +27,7 @@ use Rattle.path_facts.specs.Facts.Origin.{Zero, AtStart}
 use Rattle.path_facts.specs.Histories.{IsFollowed, IsHistoryOf, facts_of, returned_fact, wanted_fact}
 use Rattle.path_facts.specs.StackUse.{IsReturnUnproved, IsStackLost, IsStackOver}
 
-abbrev done_at : List ℕ → ℕ → Taken Point
+abbrev pub done_at : List ℕ → ℕ → Taken Point
 done_at returns a = record { point = record { returns = returns; address = a }; done = true }
 
 abbrev pushed : List (Taken Point)
@@ -77,7 +77,7 @@ inner_return : returned_fact (facts_of example_image 4096 inner) (op.Exchange (r
 unfolding registers_of lib.Count.ones
 inner_return = refl
 
-abbrev pop : Op
+abbrev pub pop : Op
 pop = op.Block (record { load = true; before = false; up = true; write_back = true; rn = 13; list = 0x8010 })
 
 pop_decodes : instruction_at example_image 0x8008 ≡ Some (record { condition = Al; op = pop })
@@ -93,13 +93,13 @@ unfolding registers_of lib.Count.ones
 no_room = refl
 
 -- the points of the function, and its histories
-abbrev point_at : List ℕ → ℕ → Point
+abbrev pub point_at : List ℕ → ℕ → Point
 point_at returns a = record { returns = returns; address = a }
 
 abbrev ways : Point → List (Way Point)
 ways = ways_from example_image 0x8000
 
-abbrev only : Place Point → List (Way Point)
+abbrev pub only : Place Point → List (Way Point)
 only to = record { done = true; to = to } ∷ []
 
 way_0 : ways (point_at [] 0x8000) ≡ only (At (point_at [] 0x8004))

@@ -12,4 +12,5 @@ pub mod RunLemmas
 pub mod StackLemmas
 pub mod StackUseLemmas
 pub mod StepLemmas
+pub mod TwoCalls
 pub mod WayLemmas

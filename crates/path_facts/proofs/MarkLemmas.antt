@@ -21,7 +21,7 @@ use Rattle.arm_cpu.specs.declared.cpu.Cpu.{Cpu}
 use Rattle.arm_cpu.specs.declared.stops.Stop.{Stop}
 use Rattle.arm_cpu.specs.Registers.{read, signed_of}
 use Rattle.arm_machine.specs.declared.access.Size.TheVariants as size
-use Rattle.path_facts.specs.Transfers.{Transfer}
+use Rattle.arm_machine.specs.declared.transfers.Transfer.{Transfer}
 use Rattle.arm_machine.specs.States.{State}
 use Rattle.arm_machine.specs.Access.{is_saved, marked, store_stop, stored, without_mark, word_holding}
 use Rattle.arm_machine.specs.Blocks.{block_stop, is_push_block, loads_many, lowest, next_word, registers_of, stored_block, stores_many}
@@ -36,7 +36,8 @@ use Rattle.arm_machine.proofs.StoreLemmas.{not_false}
 use Rattle.path_facts.specs.Facts.{IsCongruent, word_address}
 use Rattle.path_facts.specs.Sources.{access_offset, block_offset, is_at_word, mark_after, mark_after_store, mark_after_stores, touches}
 use Rattle.path_facts.proofs.NumberLemmas.{apart, difference_of, word_is}
-use Rattle.path_facts.proofs.RegisterLemmas.{IsOffsetOfSp, access_is, both}
+use Rattle.arm_machine.proofs.ReturnLemmas.{both}
+use Rattle.path_facts.proofs.RegisterLemmas.{IsOffsetOfSp, access_is}
 use Rattle.path_facts.proofs.StackLemmas.{not_true}
 
 holds_left : (q : ℕ) (xs ys : List ℕ) → Holds q xs → Holds q (xs ++ ys)

@@ -28,7 +28,7 @@ use Rattle.arm_cpu.specs.Registers.{advanced, jumped, next_pc, read, signed_of, 
 use Rattle.arm_cpu.specs.Shifts.{operand_carry, operand_value}
 use Rattle.arm_cpu.specs.Sums.{computed, settled, with_flags}
 use Rattle.arm_machine.specs.declared.access.Size.TheVariants as size
-use Rattle.path_facts.specs.Transfers.{Transfer}
+use Rattle.arm_machine.specs.declared.transfers.Transfer.{Transfer}
 use Rattle.arm_machine.specs.States.{State}
 use Rattle.arm_machine.specs.Access.{loaded, number_at, store_stop}
 use Rattle.arm_machine.specs.Transfers.{accessed, changed_base, extended, half_transfer, loads, offset_value, rebased, stores, with_cpu}
@@ -46,16 +46,10 @@ use Rattle.path_facts.specs.Sources.{access_offset, base_source, compute_source,
 use Rattle.path_facts.specs.Sources.{load_source, loaded_source, moved, moved_source, register_source, residue, shifted_source}
 use Rattle.path_facts.specs.Sources.{word_at_offset}
 use Rattle.path_facts.specs.Sources.{written_source}
+use Rattle.arm_machine.proofs.ReturnLemmas.{both, unshifted}
 use Rattle.path_facts.proofs.NumberLemmas.{as_word, base_difference, base_sum, difference_form, difference_of, itself, itself_plain}
 use Rattle.path_facts.proofs.NumberLemmas.{moved_is}
 use Rattle.path_facts.proofs.NumberLemmas.{sum_form, sum_of, word_is}
-
-pub both : (x y : Bool) → x && y ≡ true → (x ≡ true) × (y ≡ true)
-both true y on = (refl, on)
-both false y on = absurd (false≢true on)
-
-pub unshifted : (n : ℕ) → n < 2 ^ 32 → n * 2 ^ 0 % 2 ^ 32 ≡ n
-unshifted n small = omega (arith, small)
 
 pub read_at : (s : State) (r : ℕ) → r < 15 → read s.cpu r ≡ slice_index s.cpu.registers r
 read_at s r small = ap (λ (b : Bool). cond b ((s.cpu.pc + 8) % 2 ^ 32) (slice_index s.cpu.registers r)) (ne_eqb r 15 (λ e. omega

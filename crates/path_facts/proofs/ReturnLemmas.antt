@@ -35,6 +35,7 @@ use Rattle.arm_machine.specs.Transfers.{accessed, loads, rebased, stores, with_c
 use Rattle.arm_machine.specs.Effects.{effect}
 use Rattle.arm_machine.specs.Laws.{IfDone}
 use Rattle.arm_machine.specs.Orderly.{AreWords, IsOrderly}
+use Rattle.arm_machine.proofs.ReturnLemmas.{both, is_false, jumped_pc, link_value, moved_pc, through_pc, written_pc}
 use Rattle.arm_machine.proofs.OrderLemmas.{loaded_is, stays_orderly}
 use Rattle.arm_machine.proofs.StayLemmas.{if_test, if_then, if_weaker}
 use Rattle.path_facts.specs.Facts.{Fact, Facts, IsTrueOf, Says, Source, offset_of}
@@ -46,44 +47,8 @@ use Rattle.path_facts.specs.Sources.{access_offset, block_offset, load_source, l
 use Rattle.path_facts.proofs.BlockLemmas.{lowest_is, next_at}
 use Rattle.path_facts.proofs.FactLemmas.{says_true}
 use Rattle.path_facts.proofs.NumberLemmas.{itself, same_word}
-use Rattle.path_facts.proofs.RegisterLemmas.{IsOffsetOfSp, access_is, both, load_gives, unshifted}
+use Rattle.path_facts.proofs.RegisterLemmas.{IsOffsetOfSp, access_is, load_gives}
 use Rattle.path_facts.proofs.StepLemmas.{both_done, offset_is}
-
-jumped_pc : (cpu : Cpu) (v : ℕ) → IfDone (jumped cpu v) (λ next. next.pc ≡ v)
-jumped_pc cpu v = if_test (eqb (v % 4) 0) (Ok (record cpu { pc = v })) (Err stop.Leaves) _ refl tt
-
-written_pc : (cpu : Cpu) (rd v : ℕ) → eqb rd 15 ≡ true → IfDone (written cpu rd v) (λ next. next.pc ≡ v)
-written_pc cpu rd v is =
-    subst (λ (b : Bool). IfDone (cond {A = Result Cpu Stop} b (jumped cpu v) (Ok (advanced (with_register cpu rd v))))
-    (λ next. next.pc ≡ v))
-    (sym is) (jumped_pc cpu v)
-
-through_pc : (s : State) (outcome : Result Cpu Stop) (P : ℕ → Type 0) → IfDone outcome (λ cpu. P cpu.pc)
-    → IfDone (with_cpu s outcome) (λ next. P next.cpu.pc)
-through_pc s (Ok cpu) P h = h
-through_pc s (Err why) P h = tt
-
--- MOV r15,r14
-link_value : (s : State) (operand : Operand) → ((r : ℕ) → slice_index s.cpu.registers r < 2 ^ 32) → is_link_register operand ≡ true
-    → operand_value s.cpu operand ≡ slice_index s.cpu.registers 14
-link_value s (operand.Value value rotated) each link = absurd (false≢true link)
-link_value s (operand.ByRegister rm kind rs) each link = absurd (false≢true link)
-link_value s (operand.Shifted rm (shift.Lsl amount)) each link =
-    let is = both (eqb rm 14) (eqb amount 0) link in
-    subst (λ (q : ℕ). read s.cpu q * 2 ^ amount % 2 ^ 32 ≡ slice_index s.cpu.registers 14) (sym (eqb-true rm 14 is.0))
-    (subst (λ (n : ℕ). slice_index s.cpu.registers 14 * 2 ^ n % 2 ^ 32 ≡ slice_index s.cpu.registers 14) (sym (eqb-true amount 0 is.1))
-    (unshifted (slice_index s.cpu.registers 14) (each 14)))
-link_value s (operand.Shifted rm (shift.Lsr amount)) each link = absurd (false≢true link)
-link_value s (operand.Shifted rm (shift.Asr amount)) each link = absurd (false≢true link)
-link_value s (operand.Shifted rm (shift.Ror amount)) each link = absurd (false≢true link)
-link_value s (operand.Shifted rm shift.Rrx) each link = absurd (false≢true link)
-
-moved_pc : (cpu : Cpu) (code : Opcode) (flags : Flags) (set_flags carry : Bool) (rd a v : ℕ) → is_plain_move code ≡ true
-    → eqb rd 15 ≡ true → IfDone (settled (with_flags set_flags cpu (computed code flags carry a v)) code rd (computed code flags carry a v))
-    (λ next. next.pc ≡ v)
-moved_pc cpu opcode.Mov flags set_flags carry rd a v move is =
-    written_pc (with_flags set_flags cpu (computed opcode.Mov flags carry a v)) rd v is
-moved_pc cpu _ flags set_flags carry rd a v move is = absurd (false≢true move)
 
 module _ (sp : ℕ) (s : State) (before : ℕ → Bool) (words : AreWords s.cpu) (sp_word : sp < 2 ^ 32) (offset : Option ℤ)
     (known : IsOffsetOfSp sp s before words offset) where
@@ -158,12 +123,8 @@ module _ (sp : ℕ) (s : State) (before : ℕ → Bool) (words : AreWords s.cpu)
       let d = both (this.load && not this.byte && is_after this.index) this.up c.0 in
       let e = both (this.load && not this.byte) (is_after this.index) d.0 in
       let f = both this.load (not this.byte) e.0 in
-      by_load this.load f.0 (not_true this.byte f.1) c.1 b.1
+      by_load this.load f.0 (is_false this.byte f.1) c.1 b.1
     where
-      not_true : (x : Bool) → not x ≡ true → x ≡ false
-      not_true true h = absurd (false≢true h)
-      not_true false h = refl
-
       by_load : (load : Bool) → load ≡ true → this.byte ≡ false → eqb this.rn 13 ≡ true → eqb this.rd 15 ≡ true
           → IfDone (cond load (with_cpu s (loads s.cpu s.memory (word_transfer this))) (stores image s (word_transfer this)))
           (λ next. Gives (load_source (access_offset offset (word_transfer this))) next.cpu.pc)

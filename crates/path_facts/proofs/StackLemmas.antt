@@ -13,7 +13,7 @@ use Rattle.arm_cpu.specs.declared.stops.Stop.{Stop}
 use Rattle.arm_cpu.specs.Registers.{read}
 use Rattle.arm_machine.specs.declared.access.Size.{Size}
 use Rattle.arm_machine.specs.declared.access.Size.TheVariants as size
-use Rattle.path_facts.specs.Transfers.{Transfer}
+use Rattle.arm_machine.specs.declared.transfers.Transfer.{Transfer}
 use Rattle.arm_machine.specs.States.{Bytes, State}
 use Rattle.arm_machine.specs.Access.{bytes_of, is_aligned, number_at, store_stop, with_bytes}
 use Rattle.arm_machine.specs.Blocks.{block_stop, is_push_block, loads_many, lowest, registers_of, stored_block, stores_many}

@@ -40,7 +40,8 @@ use Rattle.path_facts.proofs.BlockLemmas.{block_marked, block_row, block_stored}
 use Rattle.path_facts.proofs.FactLemmas.{says_true}
 use Rattle.path_facts.proofs.LiteralLemmas.{literal_read}
 use Rattle.path_facts.proofs.MarkLemmas.{mark_row, not_below, stays_kept}
-use Rattle.path_facts.proofs.RegisterLemmas.{IsRead, both, written_row}
+use Rattle.arm_machine.proofs.ReturnLemmas.{both}
+use Rattle.path_facts.proofs.RegisterLemmas.{IsRead, written_row}
 use Rattle.path_facts.proofs.StackLemmas.{stack_row}
 
 -- what decoding guarantees of the instructions of an image

@@ -5,4 +5,3 @@ pub mod Offsets
 pub mod Routes
 pub mod Sources
 pub mod StackUse
-pub mod Transfers

@@ -21,7 +21,7 @@ use Rattle.arm_isa.specs.declared.opcodes.Opcode.{Opcode}
 use Rattle.arm_isa.specs.declared.opcodes.Opcode.TheVariants as opcode
 use Rattle.arm_isa.specs.Writes.{is_after, op_writes}
 use Rattle.arm_cpu.specs.Registers.{signed_of}
-use Rattle.path_facts.specs.Transfers.{Transfer}
+use Rattle.arm_machine.specs.declared.transfers.Transfer.{Transfer}
 use Rattle.arm_machine.specs.Access.{is_saved}
 use Rattle.arm_machine.specs.Blocks.{is_push_block, registers_of}
 use Rattle.arm_machine.specs.Transfers.{half_transfer, is_push, word_transfer}

@@ -53,7 +53,7 @@ one_of_length : (is_long : Bool) (command : Command) (probes : List Standing) (i
 one_of_length true command probes inputs o p agreed o_is p_is = both_are o p (Refuses refusal.FileTooLong) o_is p_is
 one_of_length false command probes inputs o p agreed o_is p_is = one_of_loaded command probes (job_of (task_of command).function inputs) o p agreed o_is p_is
 
--- what the files hold, where the shelf tells it
+-- what the files hold, where the shelf says it
 of_files : (content : Option (List File)) (files : List File) (probes : List Standing) (command : Command) (o : Outcome) → content ≡ Some files → IsOfCommand content probes command o → IsOfInputs command probes (inputs_of files (task_of command)) o
 of_files content files probes command o told (inputs, are, is) =
     let same : inputs ≡ inputs_of files (task_of command) = subst (λ (c : Option (List File)). IfTold c (λ fs. inputs ≡ inputs_of fs (task_of command))) told are in
@@ -82,6 +82,6 @@ by_content : (content : Option (List File)) (call : Call) (writing : Writing) (r
 by_content None call writing result agreed told answered = tt
 by_content (Some files) call writing result agreed told (o, due, delivered) = only_delivered call files o (outcome_text o) writing result agreed told due delivered
 
--- the status of an answer over a shelf that tells its content
+-- the status of an answer over a shelf that says its content
 pub only : (call : Call) (writing : Writing) (result : ℕ) → Agreed → IsAnswered call writing result → IfTold call.content (λ files. IsOnly call result)
 only call writing result agreed answered = by_content call.content call writing result agreed refl answered

@@ -20,7 +20,7 @@ use Rattle.wsymb_top.specs.Outcomes.Outcome.{Refuses}
 long_file : (files : List File) (name : List ℕ) → longest < length (file_bytes files name) → is_any_file_long files (name ∷ []) ≡ true
 long_file files name long = ap (λ (b : Bool). b || false) (lt-ltb longest (length (file_bytes files name)) long)
 
--- so many bytes are only given of a file that is too long
+-- that number of bytes is only given of a file that is too long
 pub told_long : (content : Option (List File)) (name bytes : List ℕ) → IfTold content (λ files. bytes ≡ take 67108865 (file_bytes files name)) → 67108864 < length bytes → IfTold content (λ files. is_any_file_long files (name ∷ []) ≡ true)
 told_long None name bytes told many = tt
 told_long (Some files) name bytes told many =

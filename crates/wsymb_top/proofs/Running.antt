@@ -212,7 +212,7 @@ next_at t a home last s next limits at follows =
           (fresh_after t s.sets (line_of t s.cpu.pc) limits at.all);
     }
 
--- what is still to come of a run behind a step
+-- what is still to come of a run after a step
 abbrev IsRest : ImageValue → Timing → ℕ → ℕ → ℕ → State → ℕ → Type 0
 IsRest image t home n c next spent = (rest : ℕ) × (c ≡ spent + rest) × Returns image t home next n rest
 
@@ -273,7 +273,7 @@ landed image t home s insn n c value false run = absurd run
 regrouped : (whole cost rest lines first others : ℕ) → whole ≡ cost + rest → first + others ≡ lines → whole + lines ≡ (cost + first) + (rest + others)
 regrouped whole cost rest lines first others sums used = omega arith
 
--- the cycles of an instruction and of those behind it
+-- the cycles of an instruction and of those after it
 cycles_more : (t : Timing) (last : Option ℕ) (a : ℕ) (insn : Insn) (insns : List Insn) → cycles_of t last a (insn ∷ insns) ≡ (point_cost t insn + cond (is_last last (line_of t a)) 0 t.miss) + cycles_of t (Some (line_of t a)) (next_address a) insns
 cycles_more t last a insn insns =
     regrouped (sum_by (point_cost t) (insn ∷ insns)) (point_cost t insn) (sum_by (point_cost t) insns) _ (cond (is_last last (line_of t a)) 0 t.miss) (t.miss * length (lines_used (geometry_of t) (Some (line_of t a)) (addresses_from (next_address a) insns)))
@@ -312,7 +312,7 @@ last_within image t home insn a last s n c found end at run =
     total_within c spent rest.0 (point_cost t insn + cond (is_last last (line_of t a)) 0 t.miss) others (cycles_of t last a (insn ∷ [])) rest.1
     (spent_within t home insn a last s always at) nothing (cycles_more t last a insn [])
 
--- an instruction behind which the next one follows
+-- an instruction after which the next one follows
 first_within : (image : ImageValue) (t : Timing) (home : ℕ) (insn : Insn) (insns : List Insn) (a : ℕ) (last : Option ℕ) (s : State) (n c : ℕ) → IsWithinLimits t → instruction_at image a ≡ Some insn → IsTrue (goes_on insn) → IsAt t a home last s → ((next : State) (rest : ℕ) → IsAt t (next_address a) home (Some (line_of t a)) next → Returns image t home next n rest → rest ≤ cycles_of t (Some (line_of t a)) (next_address a) insns) → IfNext (step image t s) (IsRest image t home n c) → c ≤ cycles_of t last a (insn ∷ insns)
 first_within image t home insn insns a last s n c limits found on at later run =
     let always = always_on insn on in

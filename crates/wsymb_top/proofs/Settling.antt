@@ -87,7 +87,7 @@ unknown_settles image a code none = code_status image a code ∙ ap status_of_in
 outside_settles : (image : ImageValue) (a : ℕ) → is_code image a ≡ false → status_at image a ≡ Some 32
 outside_settles image a outside = refused (is_code image a) (status_of_insn (instruction_at image a)) (Some 32) outside
 
--- instructions that go on leave the status to what stands behind them
+-- instructions that go on leave the status to what stands after them
 passed_status : (image : ImageValue) (a b : ℕ) (most : ℕ) (insns : List Insn) → IsPassed image a insns b → walk_status image (length insns + most) a ≡ walk_status image most b
 passed_status image a b most [] passed =
     let none : length {A = Insn} [] + most ≡ most = omega arith in

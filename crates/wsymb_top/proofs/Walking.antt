@@ -30,7 +30,7 @@ found_no_code true None told = cc
 found_no_code true (Some there) told = cc
 found_no_code false found told = refl
 
--- what a fetch tells of an address
+-- what a fetch says of an address
 pub fetched_insn : (image : ImageValue) (a : ℕ) (insn : Insn) → Ok insn ≡ fetched image a → instruction_at image a ≡ Some insn
 fetched_insn image a insn told = found_insn (is_code image a) (option_and_then decoding (word_at image a)) insn (sym told)
 

@@ -18,7 +18,7 @@ use Rattle.wsymb_top.specs.Jobs.{AreInputs, job_of}
 use Rattle.wsymb_top.specs.Outcomes.{Call, IsDecided, IsDue, Outcome, outcome_status, outcome_text, running, stack_size}
 use Rattle.wsymb_top.specs.Refusals.{line_of, status_of}
 
--- What a sink tells and counts: its contents and its count of faults, before and after the call.
+-- What a sink says and counts: its contents and its count of faults, before and after the call.
 pub record Writing : Type 0 where
   pub contents : Option (List ℕ)
   pub new : Option (List ℕ)

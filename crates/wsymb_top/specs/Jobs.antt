@@ -38,7 +38,7 @@ timing_bytes files (timing.File name) = Some (file_bytes files name)
 abbrev pub inputs_of : List File → Task → Inputs
 inputs_of files task = record { elf = file_bytes files task.elf; timing = timing_bytes files task.timing }
 
--- What was read for a task: where the shelf tells its content, what the files hold.
+-- What was read for a task: where the shelf says its content, what the files hold.
 abbrev pub AreInputs : Option (List File) → Task → Inputs → Type 0
 AreInputs content task inputs = IfTold content (λ files. inputs ≡ inputs_of files task)
 

@@ -90,7 +90,7 @@ IsOfLength false command probes inputs o = IsOfLoaded command probes (job_of (ta
 abbrev pub IsOfInputs : Command → List Standing → Inputs → Outcome → Type 0
 IsOfInputs command probes inputs o = IsOfLength (is_any_long inputs) command probes inputs o
 
--- What a call has and sees: its words, where its probes stand, what the shelf tells, and the shelf's counts of faults by name
+-- What a call has and sees: its words, where its probes stand, what the shelf says, and the shelf's counts of faults by name
 -- before and after the call.
 pub record Call : Type 0 where
   pub words : List (List ℕ)

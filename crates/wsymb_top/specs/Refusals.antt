@@ -81,7 +81,7 @@ name_refusal name.NoSymbol = NoSymbol
 name_refusal name.TwoSymbols = TwoSymbols
 name_refusal name.ThumbCode = ThumbCode
 
--- the refusal of a run that has no result, which was allowed so many steps
+-- the refusal of a run that has no result, which was allowed this number of steps
 abbrev pub run_refusal : ℕ → RunRefusal → Refusal
 run_refusal steps run.Memory = Memory
 run_refusal steps run.SpUnaligned = SpUnaligned

@@ -31,7 +31,7 @@ goes_on insn = is_always insn.condition && is_plain insn.op && not (writes_regis
 abbrev pub ends_well : Insn → Bool
 ends_well insn = is_always insn.condition && is_exit insn.op
 
--- these instructions stand from a on, each goes on, and b is the address behind them
+-- these instructions stand from a on, each goes on, and b is the address after them
 abbrev pub IsPassed : ImageValue → ℕ → List Insn → ℕ → Type 0
 IsPassed image a [] b = a ≡ b
 IsPassed image a (insn ∷ insns) b = (instruction_at image a ≡ Some insn) × IsTrue (goes_on insn) × IsPassed image (next_address a) insns b
@@ -42,7 +42,7 @@ IsStraight image a [] = ⊥
 IsStraight image a (insn ∷ []) = (instruction_at image a ≡ Some insn) × IsTrue (ends_well insn)
 IsStraight image a (insn ∷ more ∷ insns) = (instruction_at image a ≡ Some insn) × IsTrue (goes_on insn) × IsStraight image (next_address a) (more ∷ insns)
 
--- behind fewer than 100 instructions that go on, the fact holds of the address
+-- after fewer than 100 instructions that go on, the fact holds of the address
 abbrev pub StopsAt : ImageValue → ℕ → (ℕ → Type 0) → ℕ → Type 0
 StopsAt image entry P b = (insns : List Insn) × (length insns < 100) × IsPassed image entry insns b × P b
 

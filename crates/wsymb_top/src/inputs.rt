@@ -25,7 +25,7 @@ pub(crate) struct Inputs {
     pub timing: Option<Items<u8>>,
 }
 
-/// Reads the files of a task in the order of their words, or tells why one can't be read.
+/// Reads the files of a task in the order of their words, or says why one can't be read.
 pub(crate) fn read_inputs<F: Shelf>(
     alloc: Global,
     task: &Task,

@@ -68,7 +68,7 @@ pub enum Refusal {
         /// The address of the instruction.
         address: u32,
     },
-    /// Status 72: a run has made all the steps that it is allowed, so many, and hasn't returned.
+    /// Status 72: a run has made all the steps that it is allowed, this number, and hasn't returned.
     Spent(u64),
     /// Status 73: the probe of this place halted a run.
     Halted(u32),
@@ -165,7 +165,7 @@ impl Refusal {
         }
     }
 
-    /// The refusal of a run that has no result, which was allowed so many steps.
+    /// The refusal of a run that has no result, which was allowed this number of steps.
     pub(crate) fn of_run(steps: u64, why: RunRefusal) -> Refusal
         ensures { result ≡ run_refusal steps why }
     {

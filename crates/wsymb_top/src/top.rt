@@ -21,7 +21,7 @@ use wsym_io::{Shelf, Sink};
 /// refusal to the sink.
 ///
 /// The status is 0 for an answer, else the number of the refusal ([`Refusal`]), or 4 where the sink failed.
-/// Which words are right is told by the crate `command_words`. The probes watch a run, which tells what they
+/// Which words are right is said by the crate `command_words`. The probes watch a run, which says what they
 /// counted: there are fewer than 2^32, each with a tally of at most 2^126. Other commands don't show them
 /// anything. All of them are dropped here.
 pub fn wsymb<F: Shelf, K: Sink>(

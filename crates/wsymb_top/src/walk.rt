@@ -27,7 +27,7 @@ pub(crate) enum Walk {
 /// What stands at a step of the walk.
 #[derive(Clone, Copy)]
 enum Step {
-    /// An instruction behind which the next one follows.
+    /// An instruction after which the next one follows.
     On(Insn),
     /// The return that ends the function.
     End(Insn),

@@ -3,7 +3,7 @@ use Rattle.arm_machine.specs.declared.events.Event.{Event}
 use Rattle.machine_probe.proofs.Ongoing.{IsUnderway}
 use Rattle.machine_probe.proofs.running.run.Given as goal
 
--- So many steps are made, and no probe halts the run by their events.
+-- This number of steps is made, and no probe halts the run by their events.
 abbrev pub invariant-loop-done : goal.invariant-loop-done
 invariant-loop-done g l =
     (events : List Event) × IsUnderway l.fn.machine l.machine l.fn.steps
