@@ -2,4 +2,5 @@ pub mod Bounds
 pub mod Costs
 pub mod Extents
 pub mod LineUses
+pub mod SmallTrees
 pub mod Trees

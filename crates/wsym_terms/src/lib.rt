@@ -14,10 +14,12 @@
 
 mod bounds;
 mod costs;
+mod laws;
 mod names;
 mod trees;
 
 pub use bounds::{Atom, Bound, Coef, ParamRange};
 pub use costs::Cost;
+pub use laws::small_trees_have_their_values;
 pub use names::Name;
 pub use trees::{Tree, Use, tree_value_of_none, tree_value_rises, tree_value_shares};
