@@ -13,7 +13,7 @@ use Rattle.control_flow.specs.Routes.{Way}
 use Rattle.basic_blocks.specs.Blocks.{Chain, points, Ascending, by_first}
 use Rattle.point_order.specs.Families.{Lower}
 use Rattle.control_flow.specs.Ways.{fault_at}
-use Rattle.flow_graph.specs.Faults.{fault_number, NotAfter}
+use Rattle.point_tables.specs.Faults.{fault_number, NotAfter}
 use Rattle.function_points.proofs.MemberLemmas.{here, there}
 use Rattle.basic_blocks.proofs.NumberLemmas.{ascending_at}
 use Rattle.point_order.proofs.FamilyLemmas.{three}
@@ -25,8 +25,8 @@ use Rattle.flow_graph.specs.declared.graph.GraphPoint.{GraphPoint}
 use Rattle.flow_graph.specs.declared.graph.Block.{Block}
 use Rattle.flow_graph.specs.declared.graph.BlockGraph.{BlockGraph}
 use Rattle.flow_graph.specs.declared.graph.GraphRefusal.{GraphRefusal}
-use Rattle.flow_graph.specs.Graphs.{refusal_for, context_row, rows_of, returns_in, graph_point, graph_points, IsGraphPoint, IsNext, IsGraphBy}
-use Rattle.flow_graph.specs.Graphs.{AreTooMany, IsFaulty, IsSound, IsRefusedGraph, IsGraphOf}
+use Rattle.flow_graph.specs.Graphs.{refusal_for, context_row, rows_of, returns_in, graph_point, graph_points, IsGraphPoint, IsNext}
+use Rattle.flow_graph.specs.Graphs.{IsGraphBy, AreTooMany, IsFaulty, IsSound, IsRefusedGraph, IsGraphOf}
 use Rattle.elf32_image.specs.Parts.{ImageValue}
 use Rattle.control_flow.specs.declared.control.Fault.TheVariants as fault
 use Rattle.flow_graph.specs.declared.graph.GraphRefusal.TheVariants as why
@@ -35,7 +35,8 @@ less_apart : (i j : ℕ) → i < j → j < i → ⊥
 less_apart i j a b = omega (arith, a, b)
 
 -- a map that is_flagged members apart
-map_same : {A B : Type 0} (f : A → B) (P : A → Type 0) → ((x y : A) → P x → P y → f x ≡ f y → x ≡ y) → (xs ys : List A) → ((x : A) → Contains xs x → P x) → ((y : A) → Contains ys y → P y) → map f xs ≡ map f ys → xs ≡ ys
+map_same : {A B : Type 0} (f : A → B) (P : A → Type 0) → ((x y : A) → P x → P y → f x ≡ f y → x ≡ y) → (xs ys : List A)
+    → ((x : A) → Contains xs x → P x) → ((y : A) → Contains ys y → P y) → map f xs ≡ map f ys → xs ≡ ys
 map_same f P one [] [] a b e = refl
 map_same f P one [] (y ∷ ys) a b e = absurd (cc)
 map_same f P one (x ∷ xs) [] a b e = absurd (cc)
@@ -57,7 +58,8 @@ same_contexts : (cs ds : List Context) → map context_row cs ≡ map context_ro
 same_contexts cs ds e = map_same context_row (λ c. Unit {0}) (λ x y p q f. context_same x y f) cs ds (λ x i. tt) (λ x i. tt) e
 
 -- lists with the same members at their places
-pub same_places : {A : Type 0} (xs ys : List A) → ((k : ℕ) (x : A) → slice_get xs k ≡ Some x → slice_get ys k ≡ Some x) → ((k : ℕ) (y : A) → slice_get ys k ≡ Some y → slice_get xs k ≡ Some y) → xs ≡ ys
+pub same_places : {A : Type 0} (xs ys : List A) → ((k : ℕ) (x : A) → slice_get xs k ≡ Some x → slice_get ys k ≡ Some x)
+    → ((k : ℕ) (y : A) → slice_get ys k ≡ Some y → slice_get xs k ≡ Some y) → xs ≡ ys
 same_places [] [] f g = refl
 same_places [] (y ∷ ys) f g = let e = g 0 y refl in absurd (cc)
 same_places (x ∷ xs) [] f g = let e = f 0 x refl in absurd (cc)
@@ -91,38 +93,49 @@ one_first cs i j c d a e f s =
 module _ (ways : Point → List (Way Point)) (insns : ℕ → Option Insn) (start : Point) where
   -- contexts
 
-  lists_same : (g h : BlockGraph) → IsGraphBy ways insns start g → IsGraphBy ways insns start h → returns_in g.contexts ≡ returns_in h.contexts
+  lists_same : (g h : BlockGraph) → IsGraphBy ways insns start g → IsGraphBy ways insns start h
+      → returns_in g.contexts ≡ returns_in h.contexts
   lists_same g h a b =
-      equal_ascending Lower lower_apart (returns_in g.contexts) (returns_in h.contexts) a.rising b.rising (λ l i. (b.lists l).1 ((a.lists l).0 i)) (λ l i. (a.lists l).1 ((b.lists l).0 i))
+      equal_ascending Lower lower_apart (returns_in g.contexts) (returns_in h.contexts) a.rising b.rising
+      (λ l i. (b.lists l).1 ((a.lists l).0 i)) (λ l i. (a.lists l).1 ((b.lists l).0 i))
 
   contexts_same : (g h : BlockGraph) → IsGraphBy ways insns start g → IsGraphBy ways insns start h → g.contexts ≡ h.contexts
   contexts_same g h a b =
       let rows = same_rows (rows_of g.contexts) (rows_of h.contexts) a.rows.0 b.rows.0 a.rows.1 b.rows.1 (lists_same g h a b) in
       let e = ap rows_of a.first.1 in
       let f = ap rows_of b.first.1 in
-      a.first.1 ∙ ap (λ zs. record { parent = 0; return_address = 0 } ∷ zs) (same_contexts a.first.0 b.first.0 (sym e ∙ rows ∙ f)) ∙ sym b.first.1
+      a.first.1 ∙ ap (λ zs. record { parent = 0; return_address = 0 } ∷ zs) (same_contexts a.first.0 b.first.0 (sym e ∙ rows ∙ f))
+      ∙ sym b.first.1
 
   -- points
 
-  point_same : (ls : List (List ℕ)) → Distinct bytes_eq ls → (p q : GraphPoint) → IsGraphPoint ls insns p → IsGraphPoint ls insns q → graph_point ls p ≡ graph_point ls q → p ≡ q
+  point_same : (ls : List (List ℕ)) → Distinct bytes_eq ls → (p q : GraphPoint) → IsGraphPoint ls insns p → IsGraphPoint ls insns q
+      → graph_point ls p ≡ graph_point ls q → p ≡ q
   point_same ls d p q a b e =
       let returns : get_or ls p.context [] ≡ get_or ls q.context [] = ap (λ (z : Point). z.returns) e in
       let address : p.address ≡ q.address = ap (λ (z : Point). z.address) e in
-      let context = one_place list_equality ls p.context q.context (get_or ls q.context []) d (slice_get-get_or ls p.context [] a.0 ∙ ap Some returns) (slice_get-get_or ls q.context [] b.0) in
+      let context = one_place list_equality ls p.context q.context (get_or ls q.context []) d
+      (slice_get-get_or ls p.context [] a.0 ∙ ap Some returns) (slice_get-get_or ls q.context [] b.0) in
       let insn : p.insn ≡ q.insn = one_some p.insn q.insn (insns q.address) (ap insns (sym address) ∙ a.1) b.1 in
-      ap (λ z. record { context = z; address = p.address; insn = p.insn }) context ∙ ap (λ z. record { context = q.context; address = z; insn = p.insn }) address
+      ap (λ z. record { context = z; address = p.address; insn = p.insn }) context
+      ∙ ap (λ z. record { context = q.context; address = z; insn = p.insn }) address
       ∙ ap (λ z. record { context = q.context; address = q.address; insn = z }) insn
 
-  points_same : (ls : List (List ℕ)) → Distinct bytes_eq ls → (ps qs : List GraphPoint) → ((p : GraphPoint) → Contains ps p → IsGraphPoint ls insns p) → ((p : GraphPoint) → Contains qs p → IsGraphPoint ls insns p) → graph_points ls ps ≡ graph_points ls qs → ps ≡ qs
+  points_same : (ls : List (List ℕ)) → Distinct bytes_eq ls → (ps qs : List GraphPoint)
+      → ((p : GraphPoint) → Contains ps p → IsGraphPoint ls insns p) → ((p : GraphPoint) → Contains qs p → IsGraphPoint ls insns p)
+      → graph_points ls ps ≡ graph_points ls qs → ps ≡ qs
   points_same ls d ps qs a b e = map_same (graph_point ls) (IsGraphPoint ls insns) (point_same ls d) ps qs a b e
 
   -- blocks
 
-  next_same : (bs : List (Chain Point)) (c : Chain Point) (x y : Block) → IsNext ways bs c x → IsNext ways bs c y → x.points ≡ y.points → x ≡ y
+  next_same : (bs : List (Chain Point)) (c : Chain Point) (x y : Block) → IsNext ways bs c x → IsNext ways bs c y → x.points ≡ y.points
+      → x ≡ y
   next_same bs c x y a b e =
-      let next = equal_ascending (λ i j. i < j) less_apart x.next y.next a.ascending b.ascending (λ j i. (b.next j).1 ((a.next j).0 i)) (λ j i. (a.next j).1 ((b.next j).0 i)) in
+      let next = equal_ascending (λ i j. i < j) less_apart x.next y.next a.ascending b.ascending (λ j i. (b.next j).1 ((a.next j).0 i))
+      (λ j i. (a.next j).1 ((b.next j).0 i)) in
       let returns = same_true x.returns y.returns (λ t. b.returns.1 (a.returns.0 t)) (λ t. a.returns.1 (b.returns.0 t)) in
-      ap (λ z. record { points = z; next = x.next; returns = x.returns }) e ∙ ap (λ z. record { points = y.points; next = z; returns = x.returns }) next
+      ap (λ z. record { points = z; next = x.next; returns = x.returns }) e
+      ∙ ap (λ z. record { points = y.points; next = z; returns = x.returns }) next
       ∙ ap (λ z. record { points = y.points; next = y.next; returns = z }) returns
 
   chains_same : (g h : BlockGraph) (a : IsGraphBy ways insns start g) (b : IsGraphBy ways insns start h) → a.chains ≡ b.chains
@@ -139,28 +152,35 @@ module _ (ways : Point → List (Way Point)) (insns : ℕ → Option Insn) (star
     there_too k x e =
         let ms = lists_same g h a b in
         let cs = chains_same g h a b in
-        let c = from_mapped points a.chains k (graph_points ls x.points) (ap (λ zs. slice_get zs k) (sym a.cut) ∙ get_mapped (λ (z : Block). graph_points ls z.points) g.blocks k x e) in
+        let c = from_mapped points a.chains k (graph_points ls x.points)
+        (ap (λ zs. slice_get zs k) (sym a.cut) ∙ get_mapped (λ (z : Block). graph_points ls z.points) g.blocks k x e) in
         let d : slice_get b.chains k ≡ Some c.0 = ap (λ zs. slice_get zs k) (sym cs) ∙ c.1 in
-        let y = from_mapped (λ (z : Block). graph_points (returns_in h.contexts) z.points) h.blocks k (points c.0) (ap (λ zs. slice_get zs k) b.cut ∙ get_mapped points b.chains k c.0 d) in
+        let y = from_mapped (λ (z : Block). graph_points (returns_in h.contexts) z.points) h.blocks k (points c.0)
+        (ap (λ zs. slice_get zs k) b.cut ∙ get_mapped points b.chains k c.0 d) in
         let ps : x.points ≡ y.0.points =
-        points_same ls distinct x.points y.0.points (λ p i. a.known x p (at_place g.blocks k x e) i) (λ p i. subst (λ zs. IsGraphPoint zs insns p) (sym ms) (b.known y.0 p (at_place h.blocks k y.0 y.1) i))
+        points_same ls distinct x.points y.0.points (λ p i. a.known x p (at_place g.blocks k x e) i)
+        (λ p i. subst (λ zs. IsGraphPoint zs insns p) (sym ms) (b.known y.0 p (at_place h.blocks k y.0 y.1) i))
         (sym c.2 ∙ sym y.2 ∙ ap (λ zs. graph_points zs y.0.points) (sym ms)) in
-        let same = next_same a.chains c.0 x y.0 (a.next k c.0 x c.1 e) (subst (λ zs. IsNext ways zs c.0 y.0) (sym cs) (b.next k c.0 y.0 d y.1)) ps in
+        let same = next_same a.chains c.0 x y.0 (a.next k c.0 x c.1 e)
+        (subst (λ zs. IsNext ways zs c.0 y.0) (sym cs) (b.next k c.0 y.0 d y.1)) ps in
         y.1 ∙ ap Some (sym same)
 
     pruned_same : g.pruned ≡ h.pruned
     pruned_same =
         let ms = lists_same g h a b in
         let both : graph_points ls g.pruned ≡ graph_points (returns_in h.contexts) h.pruned =
-        equal_ascending Before before_apart (graph_points ls g.pruned) (graph_points (returns_in h.contexts) h.pruned) a.cast b.cast (λ p i. (b.pruned p).1 ((a.pruned p).0 i)) (λ p i. (a.pruned p).1 ((b.pruned p).0 i)) in
-        points_same ls distinct g.pruned h.pruned a.kept (λ p i. subst (λ zs. IsGraphPoint zs insns p) (sym ms) (b.kept p i)) (both ∙ ap (λ zs. graph_points zs h.pruned) (sym ms))
+        equal_ascending Before before_apart (graph_points ls g.pruned) (graph_points (returns_in h.contexts) h.pruned) a.cast b.cast
+        (λ p i. (b.pruned p).1 ((a.pruned p).0 i)) (λ p i. (a.pruned p).1 ((b.pruned p).0 i)) in
+        points_same ls distinct g.pruned h.pruned a.kept (λ p i. subst (λ zs. IsGraphPoint zs insns p) (sym ms) (b.kept p i))
+        (both ∙ ap (λ zs. graph_points zs h.pruned) (sym ms))
 
     entry_same : g.entry_block ≡ h.entry_block
     entry_same =
         let cs = chains_same g h a b in
         let c = a.enters in
         let d = b.enters in
-        one_first a.chains g.entry_block h.entry_block c.0 d.0 a.ascending c.1 (ap (λ zs. slice_get zs h.entry_block) cs ∙ d.1) (c.2 ∙ sym d.2)
+        one_first a.chains g.entry_block h.entry_block c.0 d.0 a.ascending c.1 (ap (λ zs. slice_get zs h.entry_block) cs ∙ d.1)
+        (c.2 ∙ sym d.2)
 
   pub one_graph : (g h : BlockGraph) → IsGraphBy ways insns start g → IsGraphBy ways insns start h → g ≡ h
   one_graph g h a b =
@@ -201,9 +221,11 @@ module _ (image : ImageValue) (entry : ℕ) where
             ]
       ]
 
-  pub one_fault : (f e : Fault) (a b : ℕ) → IsFaulty image entry f a → IsFaulty image entry e b → (fault_number f ≡ fault_number e) × (a ≡ b)
+  pub one_fault : (f e : Fault) (a b : ℕ) → IsFaulty image entry f a → IsFaulty image entry e b → (fault_number f ≡ fault_number e)
+      × (a ≡ b)
   one_fault f e a b v w =
-      at_once (fault_number f) (fault_number e) a b (subst (λ z. NotAfter (fault_number f) a (fault_number e) z) w.1.address (v.1.least w.1.at e w.1.there w.1.is))
+      at_once (fault_number f) (fault_number e) a b (subst (λ z. NotAfter (fault_number f) a (fault_number e) z) w.1.address
+      (v.1.least w.1.at e w.1.there w.1.is))
       (subst (λ z. NotAfter (fault_number e) b (fault_number f) z) v.1.address (w.1.least v.1.at f v.1.there v.1.is))
 
   pub graph_or_refusal : (g : BlockGraph) (r : GraphRefusal) → IsGraphOf image entry g → IsRefusedGraph image entry r → r ≡ why.Memory

@@ -1,5 +1,6 @@
 -- The graph of a function as a flow graph, and routes through its blocks.
-use Rattle.std.proofs.Common.{◌≡◌, refl, sym, ap, ◌∙◌, subst, ℕ, zero, suc, ◌<◌, ◌≤◌, ◌⊎◌, inl, inr, Bool, true, false, List, [], ◌∷◌, length, map, arith}
+use Rattle.std.proofs.Common.{◌≡◌, refl, sym, ap, ◌∙◌, subst, ℕ, zero, suc, ◌<◌, ◌≤◌, ◌⊎◌, inl, inr, Bool, true, false, List, [], ◌∷◌}
+use Rattle.std.proofs.Common.{length, map, arith}
 use Rattle.std.specs.Prelude.{◌==◌, ◌&&◌, ◌^◌, nat_lt, Contains, Option, Some, None, slice_get}
 use Rattle.std.specs.List.{list_any}
 use Rattle.std.proofs.lemmas.Bool.{or_cases, or_left, or_right, eqb-true, eq-eqb}
@@ -28,7 +29,7 @@ use Rattle.flow_graph.specs.Graphs.{IsGraphOf, graph_points, most_points, return
 use Rattle.flow_graph.specs.Visits.{AreBlockVisits, IsVisit}
 use Rattle.flow_graph.proofs.AgreementLemmas.{one_first}
 use Rattle.flow_graph.proofs.GraphLemmas.{few_points, map_length, some_at}
-use Rattle.flow_graph.proofs.TableLemmas.{in_one}
+use Rattle.point_tables.proofs.TableLemmas.{in_one}
 
 both_parts : (x y : Bool) → (x && y) ≡ true → (x ≡ true) × (y ≡ true)
 both_parts true y e = (refl, e)
@@ -86,7 +87,8 @@ module _ (image : ImageValue) (entry : ℕ) (g : BlockGraph) (w : IsGraphOf imag
 
   as_many : length g.blocks ≡ length cs
   as_many =
-      sym (map_length (λ (b : Block). graph_points (returns_in g.contexts) b.points) g.blocks) ∙ ap length w.graph.cut ∙ map_length points cs
+      sym (map_length (λ (b : Block). graph_points (returns_in g.contexts) b.points) g.blocks) ∙ ap length w.graph.cut
+      ∙ map_length points cs
 
   below_count : (k : ℕ) (c : Chain Point) → slice_get cs k ≡ Some c → k < g.block_count
   below_count k c e = subst (λ n. k < n) (sym (w.graph.count ∙ as_many)) (slice_get_within cs k c e)
@@ -100,10 +102,12 @@ module _ (image : ImageValue) (entry : ℕ) (g : BlockGraph) (w : IsGraphOf imag
   chain_at : (k : ℕ) (b : Block) → slice_get g.blocks k ≡ Some b → (c : Chain Point) × (slice_get cs k ≡ Some c)
   chain_at k b e =
       let c = from_mapped points cs k (graph_points (returns_in g.contexts) b.points)
-      (ap (λ zs. slice_get zs k) (sym w.graph.cut) ∙ get_mapped (λ (b : Block). graph_points (returns_in g.contexts) b.points) g.blocks k b e) in
+      (ap (λ zs. slice_get zs k) (sym w.graph.cut) ∙ get_mapped (λ (b : Block). graph_points (returns_in g.contexts) b.points) g.blocks k b
+      e) in
       (c.0, c.1)
 
-  edge_of : (j k : ℕ) (d c : Chain Point) → slice_get cs j ≡ Some d → slice_get cs k ≡ Some c → Goes ways (last_of d.first d.rest) c.first → E j k
+  edge_of : (j k : ℕ) (d c : Chain Point) → slice_get cs j ≡ Some d → slice_get cs k ≡ Some c → Goes ways (last_of d.first d.rest) c.first
+      → E j k
   edge_of j k d c e f goes =
       let b = block_at j d e in
       let next = ((w.graph.next j d b.0 e b.1).next k).1 (c, f, goes) in
@@ -141,7 +145,8 @@ module _ (image : ImageValue) (entry : ℕ) (g : BlockGraph) (w : IsGraphOf imag
                   (suc before.0, (j.0, before.1, edge_of j.0 k d.0 c j.1 e goes))
               | inr u ↦
                   let same : p ≡ u.0 = u.1.one p live walk.2 in
-                  absurd ((w.graph.blocks.each c (at_place cs k c e)).1.head r (subst (λ z. IsOnlyWay ways start r z) (sym same ∙ sym s) u.1))
+                  absurd ((w.graph.blocks.each c (at_place cs k c e)).1.head r
+                  (subst (λ z. IsOnlyWay ways start r z) (sym same ∙ sym s) u.1))
             ]
       ]
 
@@ -155,8 +160,10 @@ module _ (image : ImageValue) (entry : ℕ) (g : BlockGraph) (w : IsGraphOf imag
   few_blocks =
       subst (λ n. n ≤ most_points) (map_length (λ (c : Chain Point). c.first) cs)
       (few_points (IsCollected image entry) most_points (map (λ (c : Chain Point). c.first) cs)
-      (ascending_map (λ (c : Chain Point). c.first) (by_first Before) Before (λ c. Unit {0}) (λ x y p q l. l) cs (λ x i. tt) w.graph.ascending)
-      (λ p i. let c = from_map (λ (c : Chain Point). c.first) cs p i in subst (IsCollected image entry) c.2 (w.graph.blocks.each c.0 c.1).0.0)
+      (ascending_map (λ (c : Chain Point). c.first) (by_first Before) Before (λ c. Unit {0}) (λ x y p q l. l) cs
+      (λ x i. tt) w.graph.ascending)
+      (λ p i. let c = from_map (λ (c : Chain Point). c.first) cs p i in subst (IsCollected image entry) c.2
+      (w.graph.blocks.each c.0 c.1).0.0)
       w.sound.0)
 
   pub graph_bounded : IsBounded (flow_in g)
@@ -201,7 +208,8 @@ module _ (image : ImageValue) (entry : ℕ) (g : BlockGraph) (w : IsGraphOf imag
   block_visits p (v ∷ []) a k c e f =
       let same = one_block k c a.0 e a.1 (a.2 ∙ sym f) in
       let d = block_at k c e in
-      let leaves : Leaves ways (last_of c.first c.rest) = subst (λ (z : Chain Point). Leaves ways (last_of z.first z.rest)) (sym same) a.4 in (
+      let leaves : Leaves ways (last_of c.first c.rest) = subst (λ (z : Chain Point). Leaves ways (last_of z.first z.rest))
+      (sym same) a.4 in (
         is_visit k c a.0 v e same a.3,
         subst (λ o. returns_of o ≡ true) (sym d.1) ((w.graph.next k c d.0 e d.1).returns.1 leaves),
       )

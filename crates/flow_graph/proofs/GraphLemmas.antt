@@ -1,7 +1,7 @@
 -- The parts make the graph.
-use Rattle.std.proofs.Common.{◌≡◌, refl, sym, ap, ◌∙◌, subst, ℕ, zero, suc, ◌+◌, ◌-◌, ◌<◌, ◌≤◌, ◌⊎◌, inl, inr, Bool, true, false, List, [], ◌∷◌}
-use Rattle.std.proofs.Common.{length, get_or, map, cond, Err, arith}
-use Rattle.std.specs.Prelude.{◌↔◌, Contains, Option, Some, None, slice_get}
+use Rattle.std.proofs.Common.{◌≡◌, refl, sym, ap, ◌∙◌, subst, ℕ, zero, suc, ◌+◌, ◌-◌, ◌<◌, ◌≤◌, ◌⊎◌, inl, inr, Bool, true, false, List}
+use Rattle.std.proofs.Common.{[], ◌∷◌, length, get_or, map, cond, Err, arith}
+use Rattle.std.specs.Prelude.{◌↔◌, Contains, Option, Some, None, slice_get, ◌^◌}
 use Rattle.std.proofs.lemmas.Bool.{cases_Bool}
 use Rattle.std.proofs.lemmas.List.{get_or_default}
 use Rattle.std.proofs.lemmas.Option.{slice_get-get_or, slice_get_within, get_or_from_slice_get}
@@ -32,28 +32,25 @@ use Rattle.point_order.proofs.RankLemmas.{contains_get}
 use Rattle.flow_graph.specs.declared.graph.Block.{Block}
 use Rattle.flow_graph.specs.declared.graph.BlockGraph.{BlockGraph}
 use Rattle.flow_graph.specs.declared.graph.GraphPoint.{GraphPoint}
-use Rattle.flow_graph.specs.declared.targets.Targets.{Targets}
-use Rattle.flow_graph.specs.Graphs.{AreTooMany, IsGraphOf, IsGraphPoint, IsNext, IsSound, graph_points, returns_in}
-use Rattle.flow_graph.specs.Numbers.{AreNumbers, Pointwise}
+use Rattle.point_tables.specs.declared.targets.Targets.{Targets}
+use Rattle.flow_graph.specs.Graphs.{AreTooMany, IsGraphOf, IsGraphPoint, IsNext, IsSound, graph_points, returns_in, IsFaulty}
+use Rattle.flow_graph.specs.Graphs.{IsRefusedGraph, most_points, refusal_for}
+use Rattle.point_tables.specs.Numbers.{AreNumbers, Pointwise, AreSources}
 use Rattle.flow_graph.specs.Parts.{AreContextsOf, AreReady, AreUnflagged, IsBlockOf, first_number, last_number, pair_at, point_pair}
-use Rattle.flow_graph.specs.Targets.{step_in}
+use Rattle.point_tables.specs.Targets.{step_in, IsNumber}
 use Rattle.basic_blocks.specs.LivePoints.{before}
+use Rattle.point_tables.specs.declared.faults.FoundFault.{FoundFault}
+use Rattle.flow_graph.specs.declared.graph.FunctionGraph.{FunctionGraph}
+use Rattle.point_tables.specs.Faults.{IsLeastOf}
+use Rattle.point_tables.specs.Tables.{AreLinkChains, AreTables}
+use Rattle.flow_graph.specs.Tables.{IsFunctionGraph}
+use Rattle.flow_graph.proofs.AgreementLemmas.{same_places}
+use Rattle.point_tables.proofs.ArrangedLemmas.{is_sorted}
+use Rattle.point_tables.proofs.CutLemmas.{links_blocks, tables_living}
+use Rattle.point_tables.proofs.PlacementLemmas.{point_number}
+use Rattle.point_tables.proofs.TableLemmas.{targets_are_numbers}
 use Rattle.control_flow.specs.declared.control.Fault.TheVariants as fault
 use Rattle.flow_graph.specs.declared.graph.GraphRefusal.TheVariants as why
-use Rattle.std.specs.Prelude.{◌^◌}
-use Rattle.flow_graph.specs.declared.faults.FoundFault.{FoundFault}
-use Rattle.flow_graph.specs.declared.graph.FunctionGraph.{FunctionGraph}
-use Rattle.flow_graph.specs.Faults.{IsLeastOf}
-use Rattle.flow_graph.specs.Graphs.{IsFaulty, IsRefusedGraph, most_points, refusal_for}
-use Rattle.flow_graph.specs.Numbers.{AreSources}
-use Rattle.flow_graph.specs.Parts.{AreLinkChains}
-use Rattle.flow_graph.specs.Tables.{AreTables, IsFunctionGraph}
-use Rattle.flow_graph.specs.Targets.{IsNumber}
-use Rattle.flow_graph.proofs.AgreementLemmas.{same_places}
-use Rattle.flow_graph.proofs.ArrangedLemmas.{is_sorted}
-use Rattle.flow_graph.proofs.CutLemmas.{links_blocks, tables_living}
-use Rattle.flow_graph.proofs.PlacementLemmas.{point_number}
-use Rattle.flow_graph.proofs.TableLemmas.{targets_are_numbers}
 
 -- the number of points
 ascending_distinct : {A : Type 0} (q : Equality A) (lt : A → A → Type 0) → ((x : A) → lt x x → ⊥) → (xs : List A) → Ascending lt xs
@@ -86,7 +83,8 @@ few_points P n ps a all none =
       l,
     ))
 
-rising_from : (k n : ℕ) (xs : List ℕ) → Ascending (λ i j. i < j) xs → ((x : ℕ) → Contains xs x → (k ≤ x) × (x < n)) → k ≤ n → k + length xs ≤ n
+rising_from : (k n : ℕ) (xs : List ℕ) → Ascending (λ i j. i < j) xs → ((x : ℕ) → Contains xs x → (k ≤ x) × (x < n)) → k ≤ n
+    → k + length xs ≤ n
 rising_from k n [] a within l = omega (arith, l)
 rising_from k n (x ∷ xs) a within l =
     let w = within x (here x xs) in
@@ -123,7 +121,8 @@ partner R xs ys w k y e =
     let x = some_at xs k (subst (λ n. k < n) w.long l) in
     (x.0, x.1, w.each k x.0 y x.1 e)
 
-other_partner : {A B : Type 0} (R : A → B → Type 0) (xs : List A) (ys : List B) → Pointwise R xs ys → (k : ℕ) (x : A) → slice_get xs k ≡ Some x
+other_partner : {A B : Type 0} (R : A → B → Type 0) (xs : List A) (ys : List B) → Pointwise R xs ys → (k : ℕ) (x : A)
+    → slice_get xs k ≡ Some x
     → (y : B) × (slice_get ys k ≡ Some y) × R x y
 other_partner R xs ys w k x e =
     let l = slice_get_within xs k x e in
@@ -153,11 +152,13 @@ map_twice f g (x ∷ xs) = ap (λ zs. f (g x) ∷ zs) (map_twice f g xs)
 
 map_by : {A B : Type 0} (f g : A → B) (xs : List A) → ((x : A) → Contains xs x → f x ≡ g x) → map f xs ≡ map g xs
 map_by f g [] same = refl
-map_by f g (x ∷ xs) same = ap (λ z. z ∷ map f xs) (same x (here x xs)) ∙ ap (λ zs. g x ∷ zs) (map_by f g xs (λ y i. same y (there x y xs i)))
+map_by f g (x ∷ xs) same = ap (λ z. z ∷ map f xs) (same x (here x xs))
+    ∙ ap (λ zs. g x ∷ zs) (map_by f g xs (λ y i. same y (there x y xs i)))
 
 -- chains of numbers
 
-points_mapped : {A : Type 0} (f : ℕ → A) (bs : List (Chain ℕ)) → map (map f) (map (λ (b : Chain ℕ). points b) bs) ≡ map points (map (mapped f) bs)
+points_mapped : {A : Type 0} (f : ℕ → A) (bs : List (Chain ℕ)) → map (map f) (map (λ (b : Chain ℕ). points b) bs) ≡ map points
+    (map (mapped f) bs)
 points_mapped f [] = refl
 points_mapped f (b ∷ bs) = ap (λ zs. (f b.first ∷ map f b.rest) ∷ zs) (points_mapped f bs)
 
@@ -252,7 +253,8 @@ module _ (image : ImageValue) (entry : ℕ) (ls : List (List ℕ)) (ns : List (�
     pub firsts_rise : Ascending (λ i j. i < j) firsts
     firsts_rise =
         subst (Ascending (λ i j. i < j)) (sym firsts_of_chains)
-        (ascending_map (λ (b : Chain ℕ). b.first) (by_first (λ p q. p < q)) (λ i j. i < j) (λ b. Unit {0}) (λ x y p q l. l) chains (λ x i. tt) ready.chains.rising)
+        (ascending_map (λ (b : Chain ℕ). b.first) (by_first (λ p q. p < q)) (λ i j. i < j) (λ b. Unit {0}) (λ x y p q l. l) chains
+        (λ x i. tt) ready.chains.rising)
 
     pub firsts_few : length firsts ≤ length ns
     firsts_few =
@@ -287,18 +289,22 @@ module _ (image : ImageValue) (entry : ℕ) (ls : List (List ℕ)) (ns : List (�
 
   -- points by their numbers
   at_number : (i : ℕ) → i < length ns → at i ≡ point_at ls (pair_at ns i)
-  at_number i l = get_or_from_slice_get ps i (point_at ls (pair_at ns i)) start (get_mapped (point_at ls) ns i (pair_at ns i) (slice_get-get_or ns i (0, 0) l))
+  at_number i l = get_or_from_slice_get ps i (point_at ls (pair_at ns i)) start
+      (get_mapped (point_at ls) ns i (pair_at ns i) (slice_get-get_or ns i (0, 0) l))
 
-  pub points_by_numbers : (gs : List GraphPoint) (xs : List ℕ) → map point_pair gs ≡ map (pair_at ns) xs → ((i : ℕ) → Contains xs i → i < length ns)
+  pub points_by_numbers : (gs : List GraphPoint) (xs : List ℕ) → map point_pair gs ≡ map (pair_at ns) xs
+      → ((i : ℕ) → Contains xs i → i < length ns)
       → graph_points ls gs ≡ map at xs
   points_by_numbers gs xs e under =
       sym (map_twice (point_at ls) point_pair gs) ∙ ap (map (point_at ls)) e ∙ map_twice (point_at ls) (pair_at ns) xs
       ∙ map_by (λ i. point_at ls (pair_at ns i)) at xs (λ i m. sym (at_number i (under i m)))
 
-  pub context_known : (gs : List GraphPoint) (xs : List ℕ) → map point_pair gs ≡ map (pair_at ns) xs → ((i : ℕ) → Contains xs i → i < length ns)
+  pub context_known : (gs : List GraphPoint) (xs : List ℕ) → map point_pair gs ≡ map (pair_at ns) xs
+      → ((i : ℕ) → Contains xs i → i < length ns)
       → (p : GraphPoint) → Contains gs p → p.context < length ls
   context_known gs xs e under p m =
-      let i = from_map (pair_at ns) xs (point_pair p) (subst (λ (zs : List (ℕ × ℕ)). Contains zs (point_pair p)) e (map_in point_pair gs p m)) in
+      let i = from_map (pair_at ns) xs (point_pair p) (subst (λ (zs : List (ℕ × ℕ)). Contains zs (point_pair p)) e
+      (map_in point_pair gs p m)) in
       let l = under i.0 i.1 in
       let there : Contains ns (pair_at ns i.0) = at_place ns i.0 (pair_at ns i.0) (slice_get-get_or ns i.0 (0, 0) l) in
       subst (λ (z : ℕ × ℕ). z.0 < length ls) i.2 (ready.arranged.under (pair_at ns i.0) there)
@@ -348,14 +354,19 @@ module _ (image : ImageValue) (entry : ℕ) (ls : List (List ℕ)) (ns : List (�
                   let d = chain_at firsts firsts_are j t.0 t.2 in
                   let under = ready.chains.under d.0 (at_place chains j d.0 d.1) d.0.first (here d.0.first d.0.rest) in
                   let goes = (step_numbers.goes last d.0.first last_under under).0
-                  (subst (λ z. Contains (step_in table last) z) (sym d.2) (subst (λ (zs : List ℕ). Contains zs t.0) row t.1)) in
-                  (mapped at d.0, get_mapped (mapped at) chains j d.0 d.1, subst (λ (z : Point). Goes ways z (at d.0.first)) (sym last_point) goes)),
+                  (subst (λ z. Contains (step_in table last) z) (sym d.2) (subst (λ (zs : List ℕ). Contains zs t.0) row t.1)) in (
+                    mapped at d.0,
+                    get_mapped (mapped at) chains j d.0 d.1,
+                    subst (λ (z : Point). Goes ways z (at d.0.first))
+                        (sym last_point) goes,
+                  )),
               (λ g.
                   let d = from_mapped (mapped at) chains j g.0 g.1 in
                   let under = ready.chains.under d.0 (at_place chains j d.0 d.1) d.0.first (here d.0.first d.0.rest) in
                   let goes : Goes ways (at last) (at d.0.first) =
                   subst (λ (z : Point). Goes ways z (at d.0.first)) last_point
-                  (subst (λ (z : Point). Goes ways (last_of (mapped at c).first (mapped at c).rest) z) (sym (ap (λ (z : Chain Point). z.first) d.2)) g.2) in
+                  (subst (λ (z : Point). Goes ways (last_of (mapped at c).first (mapped at c).rest) z)
+                  (sym (ap (λ (z : Chain Point). z.first) d.2)) g.2) in
                   (w.next.exact j).1 (
                     d.0.first,
                     subst (λ (zs : List ℕ). Contains zs d.0.first) (sym row) ((step_numbers.goes last d.0.first last_under under).1 goes),
@@ -365,7 +376,8 @@ module _ (image : ImageValue) (entry : ℕ) (ls : List (List ℕ)) (ns : List (�
             returns = (
               (λ t.
                   subst (λ (z : Point). Leaves ways z) (sym last_point) ((step_numbers.leaves last last_under).0
-                  (subst (λ z. Contains (step_in table last) z) (sym long) (subst (λ (zs : List ℕ). Contains zs (length ns)) row (w.returns.0 t))))),
+                  (subst (λ z. Contains (step_in table last) z) (sym long)
+                  (subst (λ (zs : List ℕ). Contains zs (length ns)) row (w.returns.0 t))))),
               (λ v.
                   w.returns.1 (subst (λ (zs : List ℕ). Contains zs (length ns)) (sym row) (subst (λ z. Contains (step_in table last) z) long
                   ((step_numbers.leaves last last_under).1 (subst (λ (z : Point). Leaves ways z) last_point v))))),
@@ -420,7 +432,8 @@ module _ (image : ImageValue) (entry : ℕ) (ls : List (List ℕ)) (ns : List (�
           let is : at i.0 ≡ p = get_or_default ps i.0 start p i.1 ∙ i.2 in
           let off = flag_off (is_flagged flags i.0) (λ t. w.1 (subst (IsLive ways start) is ((ready.live.live i.0 i.1).0 t))) in
           let m = (are.exact i.0).1 (subst (λ k. i.0 < k) long i.1, off) in
-          subst (λ (zs : List Point). Contains zs p) (sym pruned_points) (subst (λ (z : Point). Contains (map at cast) z) is (map_in at cast i.0 m))),
+          subst (λ (zs : List Point). Contains zs p) (sym pruned_points)
+          (subst (λ (z : Point). Contains (map at cast) z) is (map_in at cast i.0 m))),
     )
 
     pub pruned_known : ((p : GraphPoint) → Contains gs p → instruction_at image p.address ≡ Some p.insn) → (p : GraphPoint) → Contains gs p
@@ -458,7 +471,8 @@ module _ (image : ImageValue) (entry : ℕ) (ns : List (ℕ × ℕ)) (table : Li
               count = count;
               enters = (
                 mapped (at image entry ls ns table flags xss ready) d.0,
-                get_mapped (mapped (at image entry ls ns table flags xss ready)) (chains image entry ls ns table flags xss ready) g.entry_block d.0 d.1,
+                get_mapped (mapped (at image entry ls ns table flags xss ready))
+                    (chains image entry ls ns table flags xss ready) g.entry_block d.0 d.1,
                 ap (at image entry ls ns table flags xss ready) d.2 ∙ begun.0,
               );
               next = blocks_next image entry ls ns table flags xss ready firsts firsts_are g.blocks blocks;
@@ -510,7 +524,8 @@ module _ (image : ImageValue) (entry : ℕ) (ls : List (List ℕ)) (ns : List (�
       let root = root_is ls are.rising ((are.lists []).1 (entry_point entry, (0, refl), refl)) in
       point_number ls ns (is_sorted image entry ls ns are) 0 entry [] root.0 root.1 ((are.points (entry_point entry)).1 (0, refl))
 
-  pub entry_is : (k : ℕ) → slice_get ns k ≡ Some (0, entry) → (k < length (points_at ls ns)) × (get_or (points_at ls ns) k (entry_point entry) ≡ entry_point entry)
+  pub entry_is : (k : ℕ) → slice_get ns k ≡ Some (0, entry) → (k < length (points_at ls ns))
+      × (get_or (points_at ls ns) k (entry_point entry) ≡ entry_point entry)
   entry_is k e =
       let root = root_is ls are.rising ((are.lists []).1 (entry_point entry, (0, refl), refl)) in (
         subst (λ n. k < n) (sym (points_length ls ns)) (slice_get_within ns k (0, entry) e),
@@ -518,7 +533,8 @@ module _ (image : ImageValue) (entry : ℕ) (ls : List (List ℕ)) (ns : List (�
             ∙ ap (λ z. record { returns = z; address = entry }) root.1,
       )
 
-  pub arranged_ready : (table : List Targets) (rows : List (List ℕ)) (flags : List Bool) (first : ℕ) (xss : List (List ℕ)) → IsSound image entry
+  pub arranged_ready : (table : List Targets) (rows : List (List ℕ)) (flags : List Bool) (first : ℕ) (xss : List (List ℕ))
+      → IsSound image entry
       → AreTables (ways_from image entry) (entry_point entry) (points_at ls ns) table rows flags → slice_get ns first ≡ Some (0, entry)
       → AreLinkChains (step_in table) (before rows) (is_flagged flags) (length table) first xss → AreReady image entry ls ns table flags xss
   arranged_ready table rows flags first xss sound tables is links =
@@ -529,7 +545,8 @@ module _ (image : ImageValue) (entry : ℕ) (ls : List (List ℕ)) (ns : List (�
         sound = sound;
         targets = tables.ahead;
         live = tables_living (ways_from image entry) (entry_point entry) (points_at ls ns) table rows flags tables;
-        chains = links_blocks (ways_from image entry) (entry_point entry) (points_at ls ns) table rows flags first xss tables rise e.0 e.1 links;
+        chains = links_blocks (ways_from image entry) (entry_point entry)
+            (points_at ls ns) table rows flags first xss tables rise e.0 e.1 links;
       }
 
   -- without a live entry there is no way out
@@ -538,15 +555,19 @@ module _ (image : ImageValue) (entry : ℕ) (ls : List (List ℕ)) (ns : List (�
       → is_flagged flags first ≡ false → IsRefusedGraph image entry why.NoReturn
   not_alive table rows flags first sound tables is off =
       let e = entry_is first is in
-      let live = tables_living (ways_from image entry) (entry_point entry) (points_at ls ns) table rows flags tables in
-      (sound, λ v. clash (is_flagged flags first) off ((live.live first e.0).1 (subst (IsLive (ways_from image entry) (entry_point entry)) (sym e.1) v)))
+      let live = tables_living (ways_from image entry) (entry_point entry) (points_at ls ns) table rows flags tables in (
+        sound,
+        λ v. clash (is_flagged flags first) off ((live.live first e.0).1
+            (subst (IsLive (ways_from image entry) (entry_point entry)) (sym e.1) v)),
+      )
     where
       clash : (b : Bool) → b ≡ false → b ≡ true → ⊥
       clash b e f = cc
 
 -- the whole of what is built
 pub function_graph_is : (image : ImageValue) (entry : ℕ) (ls : List (List ℕ)) (rows : List (List ℕ)) (f : FunctionGraph)
-    → AreReady image entry ls f.tables.points f.tables.targets f.tables.live f.tables.chains → AreSources (step_in f.tables.targets) (before rows)
+    → AreReady image entry ls f.tables.points f.tables.targets f.tables.live f.tables.chains
+    → AreSources (step_in f.tables.targets) (before rows)
     → f.tables.sources ≡ rows → IsGraphOf image entry f.graph → returns_in f.graph.contexts ≡ ls
     → map (λ (b : Block). graph_points ls b.points) f.graph.blocks
     ≡ map (map (λ i. get_or (points_at ls f.tables.points) i (entry_point entry))) f.tables.chains
@@ -560,7 +581,8 @@ function_graph_is image entry ls rows f ready back same graph e cut =
         ≡ map (map (λ i. get_or (points_at ls f.tables.points) i (entry_point entry))) f.tables.chains
         → IsFunctionGraph image entry f
     by_lists ls e ready cut =
-        let now = subst (λ (zs : List (List ℕ)). AreReady image entry zs f.tables.points f.tables.targets f.tables.live f.tables.chains) e ready in
+        let now = subst (λ (zs : List (List ℕ)). AreReady image entry zs f.tables.points f.tables.targets f.tables.live f.tables.chains) e
+        ready in
         record {
           graph = graph;
           arranged = now.arranged;
@@ -575,12 +597,14 @@ function_graph_is image entry ls rows f ready back same graph e cut =
 
 pub graph_from : (image : ImageValue) (entry : ℕ) (ls : List (List ℕ)) (ns : List (ℕ × ℕ)) (table : List Targets) (flags : List Bool)
     (xss : List (List ℕ)) → AreReady image entry ls ns table flags xss → (g : BlockGraph) (firsts cast : List ℕ) (first : ℕ)
-    → AreContextsOf ls g.contexts → firsts ≡ map first_number xss → Pointwise (IsBlockOf (instruction_at image) ns table firsts) xss g.blocks
+    → AreContextsOf ls g.contexts → firsts ≡ map first_number xss
+    → Pointwise (IsBlockOf (instruction_at image) ns table firsts) xss g.blocks
     → AreUnflagged (length ns) (is_flagged flags) cast → map point_pair g.pruned ≡ map (pair_at ns) cast
     → ((p : GraphPoint) → Contains g.pruned p → instruction_at image p.address ≡ Some p.insn)
     → slice_get ns first ≡ Some (0, entry) → is_flagged flags first ≡ true → slice_get firsts g.entry_block ≡ Some first
     → g.block_count ≡ length g.blocks → g.entry ≡ entry → IsGraphOf image entry g
-graph_from image entry ls ns table flags xss ready g firsts cast first contexts firsts_are blocks unflagged pruned known is_first lit entry_at count is_entry =
+graph_from image entry ls ns table flags xss ready g firsts cast first contexts firsts_are blocks unflagged pruned known is_first lit
+    entry_at count is_entry =
     graph_is image entry ns table flags xss g firsts cast first
     (subst (λ (zs : List (List ℕ)). AreReady image entry zs ns table flags xss) (sym contexts.lists) ready)
     (subst (λ (zs : List (List ℕ)). AreContextsOf zs g.contexts) (sym contexts.lists) contexts)
@@ -596,7 +620,8 @@ ready_same image entry ls ns ms t u f h x y a b c d r =
     (subst (λ (zs : List (List ℕ)). AreReady image entry ls ns t f zs) (sym d) r)))
 
 pub links_same : (first : ℕ) (xss : List (List ℕ)) (t u : List Targets) (r s : List (List ℕ)) (f h : List Bool) → u ≡ t → s ≡ r → h ≡ f
-    → AreLinkChains (step_in u) (before s) (is_flagged h) (length u) first xss → AreLinkChains (step_in t) (before r) (is_flagged f) (length t) first xss
+    → AreLinkChains (step_in u) (before s) (is_flagged h) (length u) first xss
+    → AreLinkChains (step_in t) (before r) (is_flagged f) (length t) first xss
 links_same first xss t u r s f h a b c w =
     subst (λ (zs : List Targets). AreLinkChains (step_in zs) (before r) (is_flagged f) (length zs) first xss) a
     (subst (λ (zs : List (List ℕ)). AreLinkChains (step_in u) (before zs) (is_flagged f) (length u) first xss) b
@@ -605,4 +630,5 @@ links_same first xss t u r s f h a b c w =
 pub cut_same : (ls : List (List ℕ)) (start : Point) (zs : List (List Point)) (ns ms : List (ℕ × ℕ)) (x y : List (List ℕ)) → ms ≡ ns → y ≡ x
     → zs ≡ map (map (λ i. get_or (points_at ls ms) i start)) y → zs ≡ map (map (λ i. get_or (points_at ls ns) i start)) x
 cut_same ls start zs ns ms x y a b e =
-    e ∙ ap (λ (n : List (ℕ × ℕ)). map (map (λ i. get_or (points_at ls n) i start)) y) a ∙ ap (map (map (λ i. get_or (points_at ls ns) i start))) b
+    e ∙ ap (λ (n : List (ℕ × ℕ)). map (map (λ i. get_or (points_at ls n) i start)) y) a
+    ∙ ap (map (map (λ i. get_or (points_at ls ns) i start))) b

@@ -1,12 +1,4 @@
 pub mod AgreementLemmas
-pub mod ArrangedLemmas
-pub mod CutLemmas
-pub mod FaultLemmas
 pub mod FlowLemmas
 pub mod GraphLemmas
-pub mod LinkLemmas
 pub mod PartLemmas
-pub mod PlacementLemmas
-pub mod PointwiseLemmas
-pub mod SourceLemmas
-pub mod TableLemmas

@@ -1,6 +1,6 @@
 -- The parts of a graph from the tables.
-use Rattle.std.proofs.Common.{◌≡◌, refl, sym, ap, ◌∙◌, subst, ℕ, ◌+◌, ◌-◌, ◌<◌, ◌≤◌, ◌⊎◌, inl, inr, Bool, true, false, List, [], ◌∷◌, ◌++◌}
-use Rattle.std.proofs.Common.{length, get_or, take, map, cond, Result, Ok, Err, arith}
+use Rattle.std.proofs.Common.{◌≡◌, refl, sym, ap, ◌∙◌, subst, ℕ, ◌+◌, ◌-◌, ◌<◌, ◌≤◌, ◌⊎◌, inl, inr, Bool, true, false, List, [], ◌∷◌}
+use Rattle.std.proofs.Common.{◌++◌, length, get_or, take, map, cond, Ok, Err, arith}
 use Rattle.std.specs.Prelude.{◌↔◌, ◌==◌, ◌||◌, nat_lt, HoldsAt, Contains, Option, Some, None, slice_get}
 use Rattle.std.specs.List.Sorted.{IsNonDecreasingBy, IsPartitionPoint}
 use Rattle.std.specs.Ordering.{nat_cmp, ordering_index}
@@ -22,17 +22,16 @@ use Rattle.basic_blocks.proofs.NumberLemmas.{ascending_at}
 use Rattle.basic_blocks.proofs.SplitLemmas.{ascending_end}
 use Rattle.function_points.proofs.MemberLemmas.{here, there, first_or_rest, in_none}
 use Rattle.flow_graph.specs.declared.graph.GraphPoint.{GraphPoint}
-use Rattle.flow_graph.specs.declared.targets.Targets.{Targets}
+use Rattle.point_tables.specs.declared.targets.Targets.{Targets}
 use Rattle.function_points.specs.Contexts.{AreContexts, lists_of}
-use Rattle.std.specs.Prelude.{IfOk}
 use Rattle.flow_graph.specs.declared.graph.Context.{Context}
 use Rattle.flow_graph.specs.Graphs.{context_row, rows_of}
-use Rattle.flow_graph.specs.Parts.{AreContextsOf, row_context}
-use Rattle.flow_graph.specs.Parts.{AreNextBlocks, AreUnflagged, IsBlockAt, first_number, in_order, last_number, pair_at, point_pair}
-use Rattle.flow_graph.specs.Targets.{numbers_in, step_in, target_numbers, targets_of}
-use Rattle.flow_graph.proofs.PlacementLemmas.{index_one}
-use Rattle.flow_graph.proofs.PointwiseLemmas.{next_front}
-use Rattle.flow_graph.proofs.TableLemmas.{in_one}
+use Rattle.flow_graph.specs.Parts.{AreContextsOf, row_context, AreNextBlocks, AreUnflagged, IsBlockAt, first_number, in_order}
+use Rattle.flow_graph.specs.Parts.{last_number, pair_at, point_pair}
+use Rattle.point_tables.specs.Targets.{numbers_in, step_in, target_numbers, targets_of}
+use Rattle.point_tables.proofs.PlacementLemmas.{index_one}
+use Rattle.point_tables.proofs.PointwiseLemmas.{next_front}
+use Rattle.point_tables.proofs.TableLemmas.{in_one}
 use Rattle.point_order.proofs.FamilyLemmas.{three}
 
 -- the instruction of a point
@@ -67,8 +66,10 @@ points_more ns numbers at out new p l w e f =
     ∙ ap (λ z. map (pair_at ns) (take at numbers) ++ z ∷ []) f
     ∙ sym (ap (map (pair_at ns)) (next_front numbers at 0 l) ∙ map-append (pair_at ns) (take at numbers) (get_or numbers at 0 ∷ []))
 
-pub known_more : (insns : ℕ → Option Insn) (out new : List GraphPoint) (p : GraphPoint) → insns p.address ≡ Some p.insn → new ≡ out ++ p ∷ []
-    → ((q : GraphPoint) → Contains out q → insns q.address ≡ Some q.insn) → (q : GraphPoint) → Contains new q → insns q.address ≡ Some q.insn
+pub known_more : (insns : ℕ → Option Insn) (out new : List GraphPoint) (p : GraphPoint) → insns p.address ≡ Some p.insn
+    → new ≡ out ++ p ∷ []
+    → ((q : GraphPoint) → Contains out q → insns q.address ≡ Some q.insn) → (q : GraphPoint) → Contains new q
+    → insns q.address ≡ Some q.insn
 known_more insns out new p is e w q i =
     elim (Contains-push_cases out p q (subst (λ (zs : List GraphPoint). Contains zs q) e i)) as (λ _. insns q.address ≡ Some q.insn) [
       | inl old ↦ w q old
@@ -111,7 +112,8 @@ pub number_at : (ns : List ℕ) (x i : ℕ) → i < length ns → HoldsAt (λ y.
 number_at ns x i l h = slice_get-get_or ns i x l ∙ ap Some (equal_numbers x (get_or ns i x) (h x))
 
 pub number_nowhere : (ns : List ℕ) (x i : ℕ) → Ascending (λ i j. i < j) ns
-    → (IsNonDecreasingBy (λ y. ordering_index (nat_cmp y x)) ns → IsPartitionPoint (λ y. nat_cmp y x ≡ Less) (λ y. nat_cmp y x ≡ Greater) ns i)
+    → (IsNonDecreasingBy (λ y. ordering_index (nat_cmp y x)) ns → IsPartitionPoint (λ y. nat_cmp y x ≡ Less)
+    (λ y. nat_cmp y x ≡ Greater) ns i)
     → (k : ℕ) → slice_get ns k ≡ Some x → ⊥
 number_nowhere ns x i a r k e =
     let parts = r (numbers_rise ns x a) in
@@ -127,7 +129,8 @@ number_nowhere ns x i a r k e =
 
 -- one or two numbers in order
 module _ (i j : ℕ) where
-  two_cases : (P : List ℕ → Type 0) → (i ≡ j → P (i ∷ [])) → (i < j → P (i ∷ j ∷ [])) → (j < i → P (j ∷ i ∷ [])) → P (in_order (Some i) (Some j))
+  two_cases : (P : List ℕ → Type 0) → (i ≡ j → P (i ∷ [])) → (i < j → P (i ∷ j ∷ [])) → (j < i → P (j ∷ i ∷ []))
+      → P (in_order (Some i) (Some j))
   two_cases P same less more =
       elim (three i j) as (λ _. P (in_order (Some i) (Some j))) [
         | inl l ↦ subst P (sym (is_less l)) (less l)
@@ -150,12 +153,14 @@ module _ (i j : ℕ) where
       is_less : i < j → in_order (Some i) (Some j) ≡ i ∷ j ∷ []
       is_less l =
           let t = less_test i j l in
-          cond-false (i == j) (i ∷ []) (cond (nat_lt i j) (i ∷ j ∷ []) (j ∷ i ∷ [])) t.0 ∙ cond-true (nat_lt i j) (i ∷ j ∷ []) (j ∷ i ∷ []) t.1
+          cond-false (i == j) (i ∷ []) (cond (nat_lt i j) (i ∷ j ∷ []) (j ∷ i ∷ [])) t.0
+          ∙ cond-true (nat_lt i j) (i ∷ j ∷ []) (j ∷ i ∷ []) t.1
 
       is_more : j < i → in_order (Some i) (Some j) ≡ j ∷ i ∷ []
       is_more l =
           let t = more_test i j l in
-          cond-false (i == j) (i ∷ []) (cond (nat_lt i j) (i ∷ j ∷ []) (j ∷ i ∷ [])) t.0 ∙ cond-false (nat_lt i j) (i ∷ j ∷ []) (j ∷ i ∷ []) t.1
+          cond-false (i == j) (i ∷ []) (cond (nat_lt i j) (i ∷ j ∷ []) (j ∷ i ∷ [])) t.0
+          ∙ cond-false (nat_lt i j) (i ∷ j ∷ []) (j ∷ i ∷ []) t.1
 
 one_ascends : (i : ℕ) → Ascending (λ i j. i < j) (i ∷ [])
 one_ascends i = ((λ y m. absurd (in_none y m)), tt)
@@ -248,7 +253,8 @@ block_some firsts None o j w e = absurd (none_some j (sym w ∙ e))
 block_some firsts (Some t) None j w e = absurd (none_some j e)
 block_some firsts (Some t) (Some k) j w e = (t, here t [], subst (λ z. slice_get firsts z ≡ Some t) (some_same k j e) w)
 
-one_index : (firsts : List ℕ) (j k t : ℕ) → Ascending (λ i j. i < j) firsts → slice_get firsts j ≡ Some t → slice_get firsts k ≡ Some t → j ≡ k
+one_index : (firsts : List ℕ) (j k t : ℕ) → Ascending (λ i j. i < j) firsts → slice_get firsts j ≡ Some t → slice_get firsts k ≡ Some t
+    → j ≡ k
 one_index firsts j k t a e f =
     elim (three j k) as (λ _. j ≡ k) [
       | inl l ↦ absurd (twice j k e f l)
@@ -266,11 +272,13 @@ one_index firsts j k t a e f =
         let y = get_or_from_slice_get firsts m t 0 f in
         omega (arith, b, x, y)
 
-some_block : (firsts : List ℕ) (to o : Option ℕ) (j t : ℕ) → Ascending (λ i j. i < j) firsts → IsBlockAt firsts to o → Contains (numbers_in to) t
+some_block : (firsts : List ℕ) (to o : Option ℕ) (j t : ℕ) → Ascending (λ i j. i < j) firsts → IsBlockAt firsts to o
+    → Contains (numbers_in to) t
     → slice_get firsts j ≡ Some t → o ≡ Some j
 some_block firsts None o j t a w i e = absurd (in_none t i)
 some_block firsts (Some u) None j t a w i e = absurd (w j (subst (λ z. slice_get firsts j ≡ Some z) (sym (in_one u t i)) e))
-some_block firsts (Some u) (Some k) j t a w i e = ap Some (one_index firsts k j u a w (subst (λ z. slice_get firsts j ≡ Some z) (sym (in_one u t i)) e))
+some_block firsts (Some u) (Some k) j t a w i e = ap Some (one_index firsts k j u a w
+    (subst (λ z. slice_get firsts j ≡ Some z) (sym (in_one u t i)) e))
 
 pub next_are : (firsts next : List ℕ) (ts : Targets) (a b : Option ℕ) → Ascending (λ i j. i < j) firsts → IsBlockAt firsts ts.done a
     → IsBlockAt firsts ts.skipped b → next ≡ in_order a b → AreNextBlocks firsts (target_numbers ts) next
@@ -318,7 +326,8 @@ leads_are ts n a b r v w e = (
 )
 
 -- where the last number leads
-pub step_at : (table : List Targets) (i : ℕ) (ts d : Targets) → i < length table → ts ≡ get_or table i d → step_in table i ≡ target_numbers ts
+pub step_at : (table : List Targets) (i : ℕ) (ts d : Targets) → i < length table → ts ≡ get_or table i d
+    → step_in table i ≡ target_numbers ts
 step_at table i ts d l e = ap targets_of (slice_get-get_or table i d l ∙ ap Some (sym e))
 
 -- the numbers without a flag
@@ -376,11 +385,6 @@ module _ (flag : ℕ → Bool) (at : ℕ) where
 pub last_number_in : (xs : List ℕ) → 0 < length xs → Contains xs (last_number xs)
 last_number_in xs l = (length xs - 1, omega (arith, l), get_or_default xs (length xs - 1) (last_number xs) 0 (omega (arith, l)))
 
--- what the value of a call has
-pub if_ok : {A E : Type 0} (r : Result A E) (P Q : A → Type 0) → ((x : A) → P x → Q x) → IfOk r P → IfOk r Q
-if_ok (Ok x) P Q f w = f x w
-if_ok (Err e) P Q f w = w
-
 -- contexts
 abbrev pub first_context : Context
 first_context = record { parent = 0; return_address = 0 }
@@ -390,13 +394,15 @@ pub more_contexts : (rows : List (ℕ × ℕ)) (at : ℕ) (d : ℕ × ℕ) (out 
     → new ≡ first_context ∷ map row_context (take (at + 1) rows)
 more_contexts rows at d out new c l w e f =
     e ∙ ap (λ zs. zs ++ c ∷ []) w ∙ ap (λ z. first_context ∷ map row_context (take at rows) ++ z ∷ []) f
-    ∙ ap (λ zs. first_context ∷ zs) (sym (ap (map row_context) (next_front rows at d l) ∙ map-append row_context (take at rows) (get_or rows at d ∷ [])))
+    ∙ ap (λ zs. first_context ∷ zs) (sym (ap (map row_context) (next_front rows at d l)
+    ∙ map-append row_context (take at rows) (get_or rows at d ∷ [])))
 
 rows_back : (rows : List (ℕ × ℕ)) → map context_row (map row_context rows) ≡ rows
 rows_back [] = refl
 rows_back (row ∷ rows) = ap (λ zs. row ∷ zs) (rows_back rows)
 
-pub contexts_are : (ls : List (List ℕ)) (rows : List (ℕ × ℕ)) (cs : List Context) → cs ≡ first_context ∷ map row_context rows → lists_of rows ≡ ls
+pub contexts_are : (ls : List (List ℕ)) (rows : List (ℕ × ℕ)) (cs : List Context) → cs ≡ first_context ∷ map row_context rows
+    → lists_of rows ≡ ls
     → ((look : ℕ × ℕ → Option ℕ) × AreContexts rows look) → AreContextsOf ls cs
 contexts_are ls rows cs e f look =
     let back : rows_of cs ≡ rows = ap rows_of e ∙ rows_back rows in

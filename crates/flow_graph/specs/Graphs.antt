@@ -1,11 +1,10 @@
 -- The graph of a function, and why there is none.
-use Rattle.std.specs.Prelude.{◌≡◌, ◌↔◌, ℕ, ◌<◌, true, Contains, Option, Some, None, List, [], ◌∷◌, length, get_or, slice_get}
-use Rattle.std.specs.Prelude.{map}
+use Rattle.std.specs.Prelude.{◌≡◌, ◌↔◌, ℕ, ◌<◌, true, Contains, Option, Some, None, List, [], ◌∷◌, length, get_or}
+use Rattle.std.specs.Prelude.{slice_get, map}
 use Rattle.elf32_image.specs.Parts.{ImageValue}
 use Rattle.arm_isa.specs.declared.instruction.Insn.{Insn}
 use Rattle.graph_search.specs.NodeLists.{MoreThan}
 use Rattle.control_flow.specs.declared.control.Fault.{Fault}
-use Rattle.control_flow.specs.declared.control.Fault.TheVariants as fault
 use Rattle.control_flow.specs.Instructions.{instruction_at}
 use Rattle.control_flow.specs.Points.{Point, entry_point}
 use Rattle.control_flow.specs.Routes.{Way, Goes, Leaves, IsReached, IsLive}
@@ -15,12 +14,13 @@ use Rattle.function_points.specs.PointLists.{point_eq}
 use Rattle.basic_blocks.specs.Blocks.{Chain, points, last_of, AreBlocks, Ascending, by_first}
 use Rattle.basic_blocks.specs.PointOrder.{Before}
 use Rattle.point_order.specs.Families.{Lower}
-use Rattle.flow_graph.specs.Faults.{IsLeastFault}
+use Rattle.point_tables.specs.Faults.{IsLeastFault}
 use Rattle.flow_graph.specs.declared.graph.Context.{Context}
 use Rattle.flow_graph.specs.declared.graph.GraphPoint.{GraphPoint}
 use Rattle.flow_graph.specs.declared.graph.Block.{Block}
 use Rattle.flow_graph.specs.declared.graph.BlockGraph.{BlockGraph}
 use Rattle.flow_graph.specs.declared.graph.GraphRefusal.{GraphRefusal}
+use Rattle.control_flow.specs.declared.control.Fault.TheVariants as fault
 use Rattle.flow_graph.specs.declared.graph.GraphRefusal.TheVariants as why
 
 -- the greatest number of points that a graph may have, the pruned ones included
@@ -50,7 +50,8 @@ abbrev pub IsGraphPoint : List (List ℕ) → (ℕ → Option Insn) → GraphPoi
 IsGraphPoint ls insns p = (p.context < length ls) × (insns p.address ≡ Some p.insn)
 
 -- a block's successors and whether it returns, where its points are those of a chain
-pub record IsNext (ways : Point → List (Way Point)) (bs : List (Chain Point)) (c : Chain Point) (b : Block) : Type 0 where
+pub record IsNext (ways : Point → List (Way Point)) (bs : List (Chain Point)) (c : Chain Point)
+    (b : Block) : Type 0 where
   pub ascending : Ascending (λ i j. i < j) b.next
   pub next : (j : ℕ) → Contains b.next j
       ↔ ((d : Chain Point) × (slice_get bs j ≡ Some d) × Goes ways (last_of c.first c.rest) d.first)
@@ -87,7 +88,8 @@ AreTooMany image entry = MoreThan point_eq most_points (IsCollected image entry)
 
 -- the points aren't too many, and this is the least fault of one of them
 abbrev pub IsFaulty : ImageValue → ℕ → Fault → ℕ → Type 0
-IsFaulty image entry f a = (AreTooMany image entry → ⊥) × IsLeastFault (fault_at image entry) (IsCollected image entry) f a
+IsFaulty image entry f a = (AreTooMany image entry → ⊥)
+    × IsLeastFault (fault_at image entry) (IsCollected image entry) f a
 
 -- the points aren't too many, and none has a fault
 abbrev pub IsSound : ImageValue → ℕ → Type 0

@@ -1,34 +1,24 @@
 -- The parts of a graph, as they are made from the tables.
-use Rattle.std.specs.Prelude.{◌≡◌, ◌↔◌, ℕ, ◌<◌, ◌-◌, ◌==◌, if◌then◌else◌, nat_lt, Bool, true, false, Contains, Option, Some}
-use Rattle.std.specs.Prelude.{None, List, [], ◌∷◌, length, get_or, slice_get, map}
+use Rattle.std.specs.Prelude.{◌≡◌, ◌↔◌, ℕ, ◌<◌, ◌-◌, ◌==◌, if◌then◌else◌, nat_lt, Bool, true, false, Contains, Option}
+use Rattle.std.specs.Prelude.{Some, None, List}
+use Rattle.std.specs.Prelude.{[], ◌∷◌, length, get_or, slice_get, map}
 use Rattle.arm_isa.specs.declared.instruction.Insn.{Insn}
 use Rattle.function_points.specs.Contexts.{AreContexts}
-use Rattle.basic_blocks.specs.Blocks.{Ascending, Chain, points}
-use Rattle.basic_blocks.specs.Chains.{AreChains}
+use Rattle.basic_blocks.specs.Blocks.{Ascending, points}
+use Rattle.basic_blocks.specs.Chains.{is_flagged}
 use Rattle.flow_graph.specs.declared.graph.Context.{Context}
 use Rattle.flow_graph.specs.declared.graph.GraphPoint.{GraphPoint}
 use Rattle.flow_graph.specs.declared.graph.Block.{Block}
-use Rattle.flow_graph.specs.declared.targets.Targets.{Targets}
+use Rattle.point_tables.specs.declared.targets.Targets.{Targets}
 use Rattle.elf32_image.specs.Parts.{ImageValue}
 use Rattle.control_flow.specs.Points.{entry_point}
 use Rattle.control_flow.specs.Ways.{ways_from}
 use Rattle.function_points.specs.PointLists.{points_at}
-use Rattle.basic_blocks.specs.Chains.{is_flagged}
 use Rattle.point_order.specs.Arrangements.{IsArranged}
 use Rattle.flow_graph.specs.Graphs.{IsSound, returns_in, rows_of}
-use Rattle.flow_graph.specs.Tables.{AreBlockNumbers}
-use Rattle.flow_graph.specs.Numbers.{Answers, AreLiveFlags, IsLink, IsTableOf}
-use Rattle.flow_graph.specs.Targets.{AreTargets, step_in}
-
--- numbers cut into chains by what only follows them
-pub record AreLinkChains (step before : ℕ → List ℕ) (flag : ℕ → Bool) (n entry : ℕ) (xss : List (List ℕ)) : Type 0 where
-  pub only : List (Option ℕ)
-  pub back : List (Option ℕ)
-  pub forward : IsTableOf (IsLink step before flag n entry) n only
-  pub backward : IsTableOf (λ q p. IsLink step before flag n entry p q) n back
-  pub chains : List (Chain ℕ)
-  pub is : xss ≡ map (λ (b : Chain ℕ). points b) chains
-  pub cut : AreChains only flag chains
+use Rattle.point_tables.specs.Tables.{AreBlockNumbers}
+use Rattle.point_tables.specs.Numbers.{Answers, AreLiveFlags}
+use Rattle.point_tables.specs.Targets.{AreTargets, step_in}
 
 abbrev pub point_pair : GraphPoint → ℕ × ℕ
 point_pair p = (p.context, p.address)

@@ -1,41 +1,19 @@
 -- The tables of a function's points.
-use Rattle.std.specs.Prelude.{◌≡◌, ◌↔◌, ℕ, ◌<◌, ◌≤◌, Bool, true, Contains, List, length, get_or, map, nat_eq}
+use Rattle.std.specs.Prelude.{◌≡◌, ℕ, List, get_or, map}
 use Rattle.elf32_image.specs.Parts.{ImageValue}
-use Rattle.graph_search.specs.Walks.{Reached}
-use Rattle.graph_search.specs.Searches.{steps_to}
 use Rattle.control_flow.specs.Points.{Point, entry_point}
-use Rattle.control_flow.specs.Routes.{Way}
 use Rattle.control_flow.specs.Ways.{ways_from}
 use Rattle.function_points.specs.PointLists.{points_at}
-use Rattle.basic_blocks.specs.Blocks.{AreBlocks, Ascending, Chain, by_first, points}
-use Rattle.basic_blocks.specs.Chains.{is_flagged, mapped}
+use Rattle.basic_blocks.specs.Blocks.{points}
+use Rattle.basic_blocks.specs.Chains.{is_flagged}
 use Rattle.basic_blocks.specs.LivePoints.{before}
-use Rattle.basic_blocks.specs.PointOrder.{Before}
 use Rattle.point_order.specs.Arrangements.{IsArranged}
 use Rattle.flow_graph.specs.declared.graph.Block.{Block}
 use Rattle.flow_graph.specs.declared.graph.FunctionGraph.{FunctionGraph}
-use Rattle.flow_graph.specs.declared.targets.Targets.{Targets}
 use Rattle.flow_graph.specs.Graphs.{IsGraphOf, graph_points, returns_in}
-use Rattle.flow_graph.specs.Numbers.{AreLiveFlags, AreSources}
-use Rattle.flow_graph.specs.Targets.{AreTargets, step_in}
-
--- where control goes from each point, from where it comes, and from which it gets out
-pub record AreTables (ways : Point → List (Way Point)) (start : Point) (ps : List Point) (table : List Targets)
-    (rows : List (List ℕ)) (flags : List Bool) : Type 0 where
-  pub ahead : AreTargets ways start ps table
-  pub back : AreSources (step_in table) (before rows)
-  pub live : (i : ℕ) → i ≤ length ps
-      → (is_flagged flags i ≡ true) ↔ Reached (steps_to nat_eq (before rows)) (length ps) i
-
--- lists of numbers of points are the blocks, in order
-pub record AreBlockNumbers (ways : Point → List (Way Point)) (start : Point) (ps : List Point)
-    (xss : List (List ℕ)) : Type 0 where
-  pub chains : List (Chain ℕ)
-  pub is : xss ≡ map (λ (b : Chain ℕ). points b) chains
-  pub under : (b : Chain ℕ) → Contains chains b → (p : ℕ) → Contains (points b) p → p < length ps
-  pub rising : Ascending (by_first (λ p q. p < q)) chains
-  pub blocks : AreBlocks ways start (map (mapped (λ i. get_or ps i start)) chains)
-  pub ascending : Ascending (by_first Before) (map (mapped (λ i. get_or ps i start)) chains)
+use Rattle.point_tables.specs.Numbers.{AreLiveFlags, AreSources}
+use Rattle.point_tables.specs.Tables.{AreBlockNumbers}
+use Rattle.point_tables.specs.Targets.{AreTargets, step_in}
 
 abbrev pub points_of : FunctionGraph → List Point
 points_of f = points_at (returns_in f.graph.contexts) f.tables.points

@@ -1,6 +1,7 @@
 //! The graph of a function from its image.
 
-ghost use Rattle.std.specs.Prelude.{◌≡◌, ℕ, ◌<◌, ◌^◌, true, Contains, Some, List, [], length, get_or, map, slice_get, IfOk};
+ghost use Rattle.std.specs.Prelude.{◌≡◌, ℕ, ◌<◌, ◌^◌, true, Contains, Some, List, [], length, get_or, map, slice_get};
+ghost use Rattle.std.specs.Prelude.{IfOk};
 ghost use Rattle.std.specs.Prelude.{IfErr, OnOk};
 ghost use Rattle.basic_blocks.specs.Blocks.{Ascending};
 ghost use Rattle.basic_blocks.specs.Chains.{is_flagged};
@@ -13,20 +14,17 @@ ghost use Rattle.flow_graph.specs.declared.graph.Block.{Block as BlockValue};
 ghost use Rattle.flow_graph.specs.Graphs.{AreTooMany, IsGraphOf, IsRefusedGraph, IsSound, refusal_for, returns_in};
 ghost use Rattle.flow_graph.specs.Graphs.{graph_points as points_of_graph};
 ghost use Rattle.flow_graph.specs.Parts.{AreReady};
-ghost use Rattle.flow_graph.specs.Tables.{AreTables, IsFunctionGraph};
+ghost use Rattle.point_tables.specs.Tables.{AreTables};
+ghost use Rattle.flow_graph.specs.Tables.{IsFunctionGraph};
 
-use crate::cutting::cut;
-use crate::faults::{FoundFault, first_fault};
-use crate::graph::{Block, BlockGraph, FunctionGraph, GraphRefusal};
-use crate::liveness::is_set;
+use crate::graph::{Block, BlockGraph, FunctionGraph, GraphRefusal, PointTables};
 use crate::parts::{block_at, blocks_of, contexts_of, firsts_of, graph_points, unflagged};
-use crate::tables::{PointTables, WayTables, tabulate};
-use crate::targets::{Targets, number_of};
 use control_flow::Fault;
 use elf32_image::Image;
 use function_points::Contexts;
 use graph_search::SearchRefusal;
 use point_order::{Arrangement, arrange};
+use point_tables::{FoundFault, Targets, WayTables, cut, first_fault, is_set, number_of, tabulate};
 use sqlite_items::Items;
 use std::alloc::{AllocError, Global};
 
@@ -245,7 +243,8 @@ fn sound_graph(
     }
 }
 
-/// The graph of the function at an address, with all points that control reaches there by their numbers. Any address may
+/// The graph of the function at an address, with all points that control reaches there by their numbers. Any address
+/// may
 /// be given.
 ///
 /// # Errors

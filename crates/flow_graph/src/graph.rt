@@ -1,7 +1,7 @@
 //! The graph of a function as a value.
 
-use crate::tables::PointTables;
 use arm_isa::Insn;
+use point_tables::Targets;
 use sqlite_items::Items;
 
 /// A list of open calls: its parent's, with one return address more.
@@ -48,6 +48,21 @@ pub struct BlockGraph {
     pub entry_block: u32,
     /// The points that control reaches and from which it never gets out of the function, in order.
     pub pruned: Items<GraphPoint>,
+}
+
+/// All points that control reaches from a function's entry, by their numbers.
+#[derive(Drop)]
+pub struct PointTables {
+    /// The points in order, each the number of its context and its address. A point's number is its place here.
+    pub points: Items<(u32, u32)>,
+    /// Where control goes from each point; the number after the last point's is the way out.
+    pub targets: Items<Targets>,
+    /// The numbers of the points from which control comes to each point and, last, to the way out.
+    pub sources: Items<Items<u32>>,
+    /// Whether control gets out of the function from each point; true at the way out.
+    pub live: Items<bool>,
+    /// The points of each block by their numbers, in the order in which control passes them.
+    pub chains: Items<Items<u32>>,
 }
 
 /// The graph of a function, and all points that control reaches there by their numbers.

@@ -7,18 +7,17 @@ ghost use Rattle.control_flow.specs.Instructions.{instruction_at};
 ghost use Rattle.basic_blocks.specs.Blocks.{Ascending};
 ghost use Rattle.basic_blocks.specs.Chains.{is_flagged};
 ghost use Rattle.flow_graph.specs.declared.graph.GraphPoint.{GraphPoint as GraphPointValue};
-ghost use Rattle.flow_graph.specs.Numbers.{Pointwise};
+ghost use Rattle.point_tables.specs.Numbers.{Pointwise};
 ghost use Rattle.flow_graph.specs.Parts.{AreContextsOf, AreNextBlocks, AreUnflagged, IsBlockAt, IsBlockOf};
 ghost use Rattle.flow_graph.specs.Parts.{first_number, last_number, pair_at, point_pair};
 ghost use Rattle.flow_graph.specs.Parts.{in_order as numbers_in_order};
-ghost use Rattle.flow_graph.specs.Targets.{step_in, target_numbers};
+ghost use Rattle.point_tables.specs.Targets.{step_in, target_numbers};
 
 use crate::graph::{Block, Context, GraphPoint};
-use crate::liveness::is_set;
-use crate::targets::Targets;
 use control_flow::fetch;
 use elf32_image::Image;
 use function_points::Contexts;
+use point_tables::{Targets, is_set};
 use sqlite_items::Items;
 use std::alloc::{AllocError, Global};
 

@@ -10,4 +10,5 @@ returns-in_ok-push-in-Ok c = (
 )
 
 pub returns-in-Err : goal.returns-in-Err
-returns-in-Err c = absurd (c.requires (fetched_none c.args.image.now c.args.address c.in-Err.field-0 (sym c.fetch.ensures.exact ∙ c.in-Err.is)))
+returns-in-Err c = absurd (c.requires (fetched_none c.args.image.now c.args.address c.in-Err.field-0
+    (sym c.fetch.ensures.exact ∙ c.in-Err.is)))

@@ -1,6 +1,6 @@
 use Rattle.std.proofs.Common.{take}
 use Rattle.control_flow.specs.Instructions.{instruction_at}
-use Rattle.flow_graph.specs.Numbers.{Pointwise}
+use Rattle.point_tables.specs.Numbers.{Pointwise}
 use Rattle.flow_graph.specs.Parts.{IsBlockOf}
 use Rattle.flow_graph.proofs.parts.blocks_of.Given as goal
 

@@ -10,5 +10,6 @@ bounds-table-chain c = c.requires.under (last_number c.args.chain.now) (last_num
 pub returns : goal.returns
 returns c =
     step_at c.args.table.now (last_number c.args.chain.now)
-    (get_or c.args.table.now (last_number c.args.chain.now) (record { done = None; skipped = None })) (record { done = None; skipped = None })
+    (get_or c.args.table.now (last_number c.args.chain.now) (record { done = None; skipped = None }))
+    (record { done = None; skipped = None })
     (c.requires.under (last_number c.args.chain.now) (last_number_in c.args.chain.now c.requires.some)) refl

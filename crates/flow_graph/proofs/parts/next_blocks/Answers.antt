@@ -1,7 +1,8 @@
 use Rattle.std.specs.Prelude.{◌≡◌}
 use Rattle.flow_graph.specs.Parts.{AreNextBlocks, in_order}
-use Rattle.flow_graph.specs.Targets.{target_numbers}
-use Rattle.flow_graph.proofs.PartLemmas.{if_ok, next_are}
+use Rattle.point_tables.specs.Targets.{target_numbers}
+use Rattle.point_tables.proofs.CutLemmas.{if_ok}
+use Rattle.flow_graph.proofs.PartLemmas.{next_are}
 use Rattle.flow_graph.proofs.parts.next_blocks.Goals as goal
 
 pub returns : goal.returns
