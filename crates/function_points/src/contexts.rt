@@ -1,6 +1,6 @@
 //! The lists of open calls, numbered as they come.
 ghost use Rattle.std.specs.Prelude.{◌≡◌, ℕ, ◌<◌, ◌⊎◌, ◌++◌, ◌∷◌, ◌^◌, [], length, Some, OnOk, IfOk, IfSome, IfNone};
-ghost use Rattle.std.specs.Prelude.{slice_get, get_or, List};
+ghost use Rattle.std.specs.Prelude.{slice_get, get_or, List, Option};
 ghost use Rattle.std.specs.Str.{bytes_eq};
 ghost use Rattle.std.specs.BTreeMap as tree;
 ghost use Rattle.graph_search.specs.NodeLists.{added, Distinct};
@@ -104,5 +104,13 @@ impl Contexts {
         } else {
             Some(self.rows[number as usize - 1])
         }
+    }
+
+    /// The parent's number and the last return address of each list but the first.
+    pub fn rows(&self) -> &[(u32, u32)]
+        ensures lists { lists_of result.now ≡ self.now }
+        ensures exact { (look : ℕ × ℕ → Option ℕ) × AreContexts result.now look }
+    {
+        self.rows.as_slice()
     }
 }

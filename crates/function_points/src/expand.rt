@@ -166,8 +166,15 @@ pub fn expand(
     }
 }
 
-/// Whether a call to an address is one of the function itself, or of one that is open.
-fn is_recursive(image: &Image, contexts: &Contexts, entry: u32, context: u32, target: u32) -> bool
+/// Whether a call to an address, by a point whose list of open calls has a number, is one of the function itself, or of
+/// one that is open. It takes no memory.
+pub fn is_recursive(
+    image: &Image,
+    contexts: &Contexts,
+    entry: u32,
+    context: u32,
+    target: u32,
+) -> bool
     requires { context < length contexts.now }
     ensures { result ≡ is_open (calls image.now) entry (get_or contexts.now context []) target }
 {

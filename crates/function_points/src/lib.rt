@@ -15,5 +15,6 @@ mod laws;
 
 pub use collect::{FunctionPoints, collect_points};
 pub use contexts::Contexts;
+pub use expand::is_recursive;
 pub use found_points::FoundPoints;
 pub use laws::contexts_agree;

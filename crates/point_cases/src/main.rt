@@ -1,11 +1,13 @@
-//! Points of functions of real executables: each line of the input names a file, a function and the most points that are
-//! asked for; each line of the output is a point, the return addresses of its open calls before its address, in
-//! ascending order.
+//! Points and blocks of functions. A line of the input that names a file, a function and the most points that are asked
+//! for is answered by the points, the return addresses of their open calls before their address, in ascending order. A
+//! line `graph NAME ENTRY BYTES`, with an executable in hexadecimal, is answered by the blocks of the function at the
+//! entry, each with its number, its address and its number of points, or by the refusal.
 #![tactic(auto)]
 
 ghost use Rattle.std.specs.Prelude.{◌<◌, length};
 
 use elf32_image::{Image, read_image};
+use flow_graph::{GraphRefusal, build};
 use function_points::{FunctionPoints, collect_points};
 use graph_search::SearchRefusal;
 use std::alloc::Global;
@@ -57,6 +59,59 @@ fn answer(rt: &HostRuntime, image: &Image, entry: u32, most: usize) -> anyhow::R
     Ok(())
 }
 
+/// Prints why a function has no graph.
+fn refuse(rt: &HostRuntime, refusal: GraphRefusal) -> anyhow::Result<()> {
+    match refusal {
+        GraphRefusal::Memory => println!(rt; "memory")?,
+        GraphRefusal::TooLarge => println!(rt; "refused 30 graph too large")?,
+        GraphRefusal::UnknownWord(at) => println!(rt; "refused 31 unknown word at 0x{at:08x}")?,
+        GraphRefusal::OutsideCode(at) => println!(rt; "refused 32 outside code at 0x{at:08x}")?,
+        GraphRefusal::IndirectJump(at) => println!(rt; "refused 33 indirect jump at 0x{at:08x}")?,
+        GraphRefusal::Recursion(at) => println!(rt; "refused 34 recursion at 0x{at:08x}")?,
+        GraphRefusal::NoReturn => println!(rt; "refused 35 no return")?,
+    }
+    Ok(())
+}
+
+/// The blocks of a function, or why it has no graph.
+fn blocks(rt: &HostRuntime, image: &Image, entry: u32) -> anyhow::Result<()> {
+    match build(rt.alloc(), image, entry) {
+        Ok(found) => {
+            let mut number: u32 = 0;
+            for block in found.graph.blocks.as_slice() {
+                if let Some(first) = block.points.as_slice().first() {
+                    println!(rt;
+                        "block {number} 0x{:08x} {}",
+                        first.address,
+                        block.points.len()
+                    )?;
+                }
+                number = number.saturating_add(1);
+            }
+        }
+        Err(refusal) => refuse(rt, refusal)?,
+    }
+    Ok(())
+}
+
+/// The answer of a line `graph`.
+fn graph_answer(rt: &HostRuntime, line: &str) -> anyhow::Result<()> {
+    let alloc = rt.alloc();
+    let mut words = line.split(' ').skip(1);
+    let name = words.next().unwrap_or("");
+    let address = words.next().unwrap_or("");
+    let bytes = hex::decode(alloc, words.next().unwrap_or(""))?;
+    println!(rt; "graph {name} {address}")?;
+    let entry = address.strip_prefix("0x").map_or(0, |digits| {
+        u32::from_str_radix(digits, 16).unwrap_or(0)
+    });
+    match read_image(alloc, bytes.as_slice()) {
+        Ok(image) => blocks(rt, &image, entry)?,
+        Err(_) => println!(rt; "no executable")?,
+    }
+    Ok(())
+}
+
 /// The answer of a line: a file, a function and the most points.
 fn line_answer(rt: &HostRuntime, line: &str) -> anyhow::Result<()> {
     let alloc = rt.alloc();
@@ -87,7 +142,11 @@ fn line_answer(rt: &HostRuntime, line: &str) -> anyhow::Result<()> {
 fn main(rt: HostRuntime) -> anyhow::Result<()> {
     for line in rt.lines(rt.alloc()) {
         let line = line?;
-        line_answer(&rt, line.as_str())?;
+        if line.as_str().starts_with("graph ") {
+            graph_answer(&rt, line.as_str())?;
+        } else {
+            line_answer(&rt, line.as_str())?;
+        }
     }
     Ok(())
 }

@@ -1,0 +1,4 @@
+pub mod AgreementLemmas
+pub mod FlowLemmas
+pub mod GraphLemmas
+pub mod PartLemmas
