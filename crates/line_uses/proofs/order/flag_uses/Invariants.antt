@@ -1,0 +1,10 @@
+use Rattle.std.proofs.Common.{drop, length, replicate, false}
+use Rattle.line_uses.specs.PointMaps.{code_of}
+use Rattle.line_uses.specs.Scopes.{all_uses}
+use Rattle.line_uses.proofs.OrderLemmas.{AreFlagged}
+use Rattle.line_uses.proofs.order.flag_uses.Given as goal
+
+abbrev pub invariant-loop-block : goal.invariant-loop-block
+invariant-loop-block l =
+    AreFlagged (code_of l.tables) (all_uses (code_of l.tables) l.blocks)
+    (all_uses (code_of l.tables) (drop l.block-index l.blocks)) (replicate (length l.tables.home) false) l.flags.items

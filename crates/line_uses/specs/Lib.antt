@@ -1,0 +1,4 @@
+pub mod Leaves
+pub mod PointMaps
+pub mod Scopes
+pub mod SearchSteps
