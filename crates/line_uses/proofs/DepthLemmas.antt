@@ -7,9 +7,9 @@ use Rattle.std.proofs.lemmas.Bool.{cases_Bool, or_left, or_right, eq-eqb, cond-f
 use Rattle.std.proofs.lemmas.Bool.Decides.{eqb_tells, nat_tests}
 use Rattle.graph_search.specs.NodeLists.{holds}
 use Rattle.graph_search.specs.Rows.{row_in}
-use Rattle.persistence.specs.Younger.{Code, IsYounger}
+use Rattle.persistence.specs.Younger.{AtLeast, Code, IsYounger}
 use Rattle.persistence.proofs.StrongLemmas.{is_other_sound}
-use Rattle.line_uses.specs.PointMaps.{ArePointMaps, PointMaps, code_of, depth_of, block_of, inside, within}
+use Rattle.line_uses.specs.PointMaps.{ArePointMaps, PointMaps, block_of, code_of, depth_of, inside, loop_at, within}
 use Rattle.line_uses.specs.SearchSteps.{other}
 use Rattle.line_uses.specs.Scopes.{AreMany, IsScoped}
 
@@ -127,3 +127,15 @@ middle_low a b lt = omega (arith, lt)
 
 pub middle_high : (a b : ℕ) → a < b → (a + b) / 2 < b
 middle_high a b lt = omega (arith, lt)
+
+-- the answers of a search in the loop of a depth
+pub in_loop : (m : PointMaps) (p d n : ℕ) → n ≡ loop_at m (block_of m p) d → ArePointMaps m → p < length m.home → d ≤ depth_of m p → inside m n p ≡ true
+in_loop m p d n is are lt le = subst (λ (k : ℕ). inside m k p ≡ true) (sym is) (own_loop m p d are lt le)
+
+pub many_in_loop : (sets ways : ℕ) (m : PointMaps) (p d n : ℕ) → n ≡ loop_at m (block_of m p) d
+    → AtLeast ways (IsYounger (code_of m) sets (inside m n) p) → AreMany sets ways m p d
+many_in_loop sets ways m p d n is a = subst (λ (k : ℕ). AtLeast ways (IsYounger (code_of m) sets (inside m k) p)) is a
+
+pub few_in_loop : (sets ways : ℕ) (m : PointMaps) (p d n : ℕ) → n ≡ loop_at m (block_of m p) d
+    → (AtLeast ways (IsYounger (code_of m) sets (inside m n) p) → ⊥) → AreMany sets ways m p d → ⊥
+few_in_loop sets ways m p d n is a = subst (λ (k : ℕ). AtLeast ways (IsYounger (code_of m) sets (inside m k) p) → ⊥) is a

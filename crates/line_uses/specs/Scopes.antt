@@ -1,6 +1,6 @@
 -- The scope of a use, and what stands of a block's uses in its leaf.
 use Rattle.std.specs.Prelude.{◌≡◌, ℕ, ◌+◌, Bool, true, false, is_some, if◌then◌else◌, List, [], ◌∷◌}
-use Rattle.std.specs.Prelude.{◌++◌, nat_eq, not, ◌⊎◌, Option, Some, None, slice_index_or}
+use Rattle.std.specs.Prelude.{◌<◌, ◌≤◌, ◌++◌, nat_eq, not, ◌⊎◌, Option, Some, None, slice_index_or}
 use Rattle.graph_search.specs.NodeLists.{holds}
 use Rattle.persistence.specs.BlockMisses.{is_use}
 use Rattle.persistence.specs.Younger.{AtLeast, Code, HasNoScope, IsScope, IsYounger}
@@ -74,3 +74,9 @@ paid_here miss most c scope prev p = most p + (if always_here c scope prev p the
 abbrev pub paid : ℕ → (ℕ → ℕ) → Code → (ℕ → Option ℕ) → Option ℕ → List ℕ → ℕ
 paid miss most c scope prev [] = 0
 paid miss most c scope prev (p ∷ ps) = paid_here miss most c scope prev p + paid miss most c scope (Some p) ps
+
+-- the depths in which a search halves: below the first there are many younger lines, in the second few
+pub record IsBetween (sets ways : ℕ) (m : PointMaps) (p low high : ℕ) : Type 0 where
+  pub most : high ≤ depth_of m p
+  pub few : AreMany sets ways m p high → ⊥
+  pub many : (e : ℕ) → e < low → AreMany sets ways m p e

@@ -5,7 +5,7 @@ use Rattle.graph_search.specs.NodeLists.{added, holds}
 use Rattle.graph_search.specs.Rows.{row_in}
 use Rattle.persistence.specs.PointRows.{line_at}
 use Rattle.persistence.specs.Searches.{TestsFollowing, is_other}
-use Rattle.line_uses.specs.PointMaps.{PointMaps, code_of, inside}
+use Rattle.line_uses.specs.PointMaps.{ArePointMaps, PointMaps, code_of, inside}
 use Rattle.line_uses.specs.declared.searches.LineMarks.{LineMarks}
 
 -- a point of another line in a loop
@@ -38,4 +38,4 @@ backward_step m d line met r = filter (picks m d line met) (row_in m.before r)
 -- marks of the search forward from a line: where they say a line, they are that line's
 pub record AreForward (m : PointMaps) (marks : LineMarks) : Type 0 where
   pub size : marks.marks.count ≡ length m.home + 1
-  pub known : (l : ℕ) → marks.line ≡ Some l → TestsFollowing (code_of m) (inside m 0) l (picks m 0 l marks.marks.nodes)
+  pub known : ArePointMaps m → (l : ℕ) → marks.line ≡ Some l → TestsFollowing (code_of m) (inside m 0) l (picks m 0 l marks.marks.nodes)

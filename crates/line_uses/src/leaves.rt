@@ -211,12 +211,12 @@ pub fn uses(
     ways: usize,
     miss: u64,
 ) -> Result<LineUses, AllocError>
-    requires maps { ArePointMaps tables.now }
+    requires count { length tables.now.home < 2 ^ 32 }
     requires inside { (b p : ℕ) → holds nat_eq p (row_in blocks.now b) ≡ true → p < length tables.now.home }
     requires small { (b : ℕ) → length (row_in blocks.now b) < 2 ^ 32 }
     requires some_set { 0 < sets }
     requires some_way { 0 < ways }
-    ensures { IfOk result (AreUsesOf sets ways miss tables.now blocks.now costs.now) }
+    ensures { ArePointMaps tables.now → IfOk result (AreUsesOf sets ways miss tables.now blocks.now costs.now) }
 {
     let scopes = scopes_of(alloc, tables, blocks, sets, ways)?;
     let found = all_blocks(alloc, tables, scopes.as_slice(), costs, miss, blocks)?;

@@ -1,8 +1,7 @@
 //! The scopes of uses.
 
-ghost use Rattle.std.specs.Prelude.{◌≡◌, ◌<◌, ◌≤◌, ◌+◌, ◌%◌, ◌∷◌, [], ℕ, Bool, true, false, List, length, nat_eq};
-ghost use Rattle.std.specs.Prelude.{Option};
-ghost use Rattle.std.specs.Prelude.{None, IfOk, OnOk};
+ghost use Rattle.std.specs.Prelude.{◌≡◌, ◌<◌, ◌≤◌, ◌+◌, ◌%◌, ◌^◌, ◌∷◌, [], ℕ, Bool, true, false, List, length, nat_eq};
+ghost use Rattle.std.specs.Prelude.{Option, None, IfOk, OnOk};
 ghost use Rattle.graph_search.specs.NodeLists.{holds};
 ghost use Rattle.graph_search.specs.Rows.{row_in};
 ghost use Rattle.persistence.specs.PointRows.{line_at};
@@ -17,6 +16,15 @@ use graph_search::Marks;
 use sqlite_items::Items;
 use std::alloc::{AllocError, Global};
 
+/// How many loops are round a point's block, where they are no more than sixteen.
+fn depth_at(tables: &PointTables, point: u32) -> usize
+    ensures exact { ArePointMaps tables.now → result ≡ depth_of tables.now point }
+    ensures low { result < 17 }
+{
+    let depth = tables.loops(point).len();
+    if depth < 17 { depth } else { 0 }
+}
+
 /// The least depth in whose loop a point has few younger lines, or none. A smaller loop has fewer younger lines, so the
 /// depths are halved.
 pub(crate) fn scope_of(
@@ -29,18 +37,18 @@ pub(crate) fn scope_of(
     sets: u32,
     ways: usize,
 ) -> Result<Option<u32>, AllocError>
-    requires maps { ArePointMaps tables.now }
+    requires count { length tables.now.home < 2 ^ 32 }
     requires all { HasSet sets tables.now (line_at tables.now.lines point) peers.now }
     requires back { marks.old.count ≡ length tables.now.home }
     requires forward { AreForward tables.now forward.old }
     requires inside { point < length tables.now.home }
     requires some_set { 0 < sets }
     requires some_way { 0 < ways }
-    ensures scope { IfOk result (IsScoped sets ways tables.now point) }
+    ensures scope { ArePointMaps tables.now → IfOk result (IsScoped sets ways tables.now point) }
     ensures back { OnOk result (marks.new.count ≡ length tables.now.home) }
     ensures forward { OnOk result (AreForward tables.now forward.new) }
 {
-    let depth = tables.loops(point).len();
+    let depth = depth_at(tables, point);
     let some = is_few(
         alloc,
         tables,
@@ -92,7 +100,7 @@ fn set_scope(
     sets: u32,
     ways: usize,
 ) -> Result<(), AllocError>
-    requires maps { ArePointMaps tables.now }
+    requires count { length tables.now.home < 2 ^ 32 }
     requires all { HasSets sets tables.now by_set.now }
     requires flags { length flags.now ≡ length tables.now.home }
     requires back { marks.old.count ≡ length tables.now.home }
@@ -100,7 +108,7 @@ fn set_scope(
     requires size { length scopes.old.items ≡ length tables.now.home }
     requires some_set { 0 < sets }
     requires some_way { 0 < ways }
-    ensures ok { OnOk result ((due left : List ℕ)
+    ensures ok { ArePointMaps tables.now → OnOk result ((due left : List ℕ)
         → ((q : ℕ) → holds nat_eq q due ≡ true → flag_in flags.now q ≡ true)
         → AreSoFar sets ways tables.now due (point ∷ left) scopes.old.items
         → AreSoFar sets ways tables.now due left scopes.new.items) }
@@ -129,13 +137,13 @@ fn set_scopes(
     sets: u32,
     ways: usize,
 ) -> Result<(), AllocError>
-    requires maps { ArePointMaps tables.now }
+    requires count { length tables.now.home < 2 ^ 32 }
     requires all { HasSets sets tables.now by_set.now }
     requires flags { length flags.now ≡ length tables.now.home }
     requires size { length scopes.old.items ≡ length tables.now.home }
     requires some_set { 0 < sets }
     requires some_way { 0 < ways }
-    ensures { OnOk result ((due : List ℕ)
+    ensures { ArePointMaps tables.now → OnOk result ((due : List ℕ)
         → ((q : ℕ) → holds nat_eq q due ≡ true → flag_in flags.now q ≡ true)
         → AreSoFar sets ways tables.now due order.now scopes.old.items
         → AreSoFar sets ways tables.now due [] scopes.new.items) }
@@ -179,11 +187,11 @@ pub(crate) fn scopes_of(
     sets: u32,
     ways: usize,
 ) -> Result<Vec<Option<u32>>, AllocError>
-    requires maps { ArePointMaps tables.now }
+    requires count { length tables.now.home < 2 ^ 32 }
     requires inside { (b p : ℕ) → holds nat_eq p (row_in blocks.now b) ≡ true → p < length tables.now.home }
     requires some_set { 0 < sets }
     requires some_way { 0 < ways }
-    ensures { IfOk result (λ v. AreScopesOf sets ways tables.now blocks.now v.items) }
+    ensures { ArePointMaps tables.now → IfOk result (λ v. AreScopesOf sets ways tables.now blocks.now v.items) }
 {
     let flags = flag_uses(alloc, tables, blocks)?;
     let lines = tables.lines();

@@ -176,7 +176,7 @@ fn mark_line(
     forward: &mut LineMarks,
     line: u32,
 ) -> Result<(), AllocError>
-    requires maps { ArePointMaps tables.now }
+    requires count { length tables.now.home < 2 ^ 32 }
     requires all { HasLine tables.now line peers.now }
     requires forward { AreForward tables.now forward.old }
     ensures forward { OnOk result (AreForward tables.now forward.new) }
@@ -205,11 +205,11 @@ fn mark_following(
     number: u32,
     line: u32,
 ) -> Result<(), AllocError>
-    requires maps { ArePointMaps tables.now }
+    requires count { length tables.now.home < 2 ^ 32 }
     requires all { HasLine tables.now line peers.now }
     requires forward { AreForward tables.now forward.old }
     ensures forward { OnOk result (AreForward tables.now forward.new) }
-    ensures exact { (p : ℕ) → inside tables.now number p ≡ true → line_at tables.now.lines p ≡ line
+    ensures exact { ArePointMaps tables.now → (p : ℕ) → inside tables.now number p ≡ true → line_at tables.now.lines p ≡ line
         → OnOk result (TestsFollowing (code_of tables.now) (inside tables.now number) line
         (picks tables.now number line forward.new.marks.nodes)) }
 {
@@ -294,16 +294,16 @@ pub(crate) fn is_few(
     sets: u32,
     ways: usize,
 ) -> Result<bool, AllocError>
-    requires maps { ArePointMaps tables.now }
+    requires count { length tables.now.home < 2 ^ 32 }
     requires all { HasSet sets tables.now (line_at tables.now.lines point) peers.now }
     requires back { marks.old.count ≡ length tables.now.home }
     requires forward { AreForward tables.now forward.old }
-    requires here { inside tables.now number point ≡ true }
+    requires inside { point < length tables.now.home }
     requires some_set { 0 < sets }
     requires some_way { 0 < ways }
-    ensures fewer { IfOk result (λ b. b ≡ true → AtLeast ways
+    ensures fewer { ArePointMaps tables.now → inside tables.now number point ≡ true → IfOk result (λ b. b ≡ true → AtLeast ways
         (IsYounger (code_of tables.now) sets (inside tables.now number) point) → ⊥) }
-    ensures many { IfOk result (λ b. b ≡ false → AtLeast ways
+    ensures many { ArePointMaps tables.now → inside tables.now number point ≡ true → IfOk result (λ b. b ≡ false → AtLeast ways
         (IsYounger (code_of tables.now) sets (inside tables.now number) point)) }
     ensures back { OnOk result (marks.new.count ≡ length tables.now.home) }
     ensures forward { OnOk result (AreForward tables.now forward.new) }

@@ -13,13 +13,13 @@ scope_of-requires-clause-inside c =
     subst (λ (n : ℕ). c.args.point < n) c.requires.flags (flag_inside c.args.flags.now c.args.point (search rules))
 
 pub returns-in_ok-scope-clause-ok : goal.returns-in_ok-scope-clause-ok
-returns-in_ok-scope-clause-ok c = λ due left all are.
+returns-in_ok-scope-clause-ok c = λ maps due left all are.
     one_set c.args.sets c.args.ways c.args.tables.now due left c.args.scopes.now.items c.args.point c.in_ok-scope.scope
     (subst (λ (n : ℕ). c.args.point < n) (c.requires.flags ∙ sym c.requires.size)
     (flag_inside c.args.flags.now c.args.point (search rules)))
-    c.in_ok-scope.ensures.scope are
+    (c.in_ok-scope.ensures.scope maps) are
 
 pub returns-else-flag_of-clause-ok : goal.returns-else-flag_of-clause-ok
-returns-else-flag_of-clause-ok c = λ due left all are.
+returns-else-flag_of-clause-ok c = λ maps due left all are.
     no_use_set c.args.sets c.args.ways c.args.tables.now c.args.flags.now due left c.args.scopes.now.items c.args.point (search rules) all
     are

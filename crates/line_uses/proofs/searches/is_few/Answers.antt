@@ -8,19 +8,21 @@ use Rattle.line_uses.proofs.FewLemmas.{few_met, many_met, set_has_line}
 use Rattle.line_uses.proofs.searches.is_few.Goals as goal
 
 pub returns-clause-fewer : goal.returns-clause-fewer
-returns-clause-fewer c = λ e.
+returns-clause-fewer c = λ maps here e.
     few_met c.args.sets c.args.ways c.args.tables.now c.args.number c.line-line.result c.args.point c.mark_following.new.forward.marks.nodes
-    c.requires.maps (c.in_ok-mark_following.ensures.exact c.args.point c.requires.here (sym c.line-line.ensures)) c.requires.here
+    maps
+    (c.in_ok-mark_following.ensures.exact maps c.args.point here (sym c.line-line.ensures)) here
     (sym c.line-line.ensures)
     (subst (λ (ls : List ℕ). AtLeast c.args.ways (IsMet (backward_step c.args.tables.now c.args.number c.line-line.result
     c.mark_following.new.forward.marks.nodes) (line_at ls) c.args.point c.line-line.result c.args.sets) → ⊥) c.lines.ensures
     (c.in_ok-few.ensures.fewer e))
 
 pub returns-clause-many : goal.returns-clause-many
-returns-clause-many c = λ e.
+returns-clause-many c = λ maps here e.
     many_met c.args.sets c.args.ways c.args.tables.now c.args.number c.line-line.result c.args.point
     c.mark_following.new.forward.marks.nodes
-    c.requires.maps (c.in_ok-mark_following.ensures.exact c.args.point c.requires.here (sym c.line-line.ensures)) c.requires.here
+    maps
+    (c.in_ok-mark_following.ensures.exact maps c.args.point here (sym c.line-line.ensures)) here
     (sym c.line-line.ensures)
     (subst (λ (ls : List ℕ). AtLeast c.args.ways (IsMet (backward_step c.args.tables.now c.args.number c.line-line.result
     c.mark_following.new.forward.marks.nodes) (line_at ls) c.args.point c.line-line.result c.args.sets)) c.lines.ensures
@@ -31,6 +33,6 @@ mark_following-requires-clause-all c =
     set_has_line c.args.sets c.args.tables.now c.args.point c.line-line.result c.args.peers.now c.line-line.ensures c.requires.all
 
 pub returns-then-fits-clause-fewer : goal.returns-then-fits-clause-fewer
-returns-then-fits-clause-fewer c = λ e.
+returns-then-fits-clause-fewer c = λ maps here e.
     c.in_ok-fits.ensures c.args.sets c.args.point (sym c.line-line.ensures)
     (subst (λ (l : ℕ). HasSet c.args.sets c.args.tables.now l c.args.peers.now) (sym c.line-line.ensures) c.requires.all) (search rules)

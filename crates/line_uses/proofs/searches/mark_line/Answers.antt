@@ -15,10 +15,10 @@ pub returns-clause-forward : goal.returns-clause-forward
 returns-clause-forward c =
     record {
       size = search rules;
-      known = λ l is.
+      known = λ maps l is.
           subst (λ (x : ℕ). TestsFollowing (code_of c.args.tables.now) (inside c.args.tables.now 0) x
           (picks c.args.tables.now 0 x c.mark_reached.new.marks.nodes)) (same_line c.args.line l is)
-          (all_following c.args.tables.now c.args.line c.args.peers.now c.mark_reached.new.marks.nodes c.requires.maps c.requires.all
+          (all_following c.args.tables.now c.args.line c.args.peers.now c.mark_reached.new.marks.nodes maps c.requires.all
           (subst (λ (x : ℕ). (q : ℕ) → holds nat_eq q c.mark_reached.new.marks.nodes ≡ true
           → Reached (steps_to nat_eq (forward_step c.args.tables.now c.args.peers.now c.args.line)) x q) c.len-start.ensures
           c.in_ok-mark_reached.ensures.found)
