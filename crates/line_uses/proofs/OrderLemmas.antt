@@ -119,6 +119,12 @@ set_inside lines sets lt = mod-lt lines lt
 
 -- ---- flags
 
+pub set_past : (flags : List Bool) (p : ℕ) (b : Bool) → length flags ≤ p → slice_set flags p b ≡ flags
+set_past [] zero b le = refl
+set_past [] (suc p) b le = refl
+set_past (f ∷ flags) zero b le = absurd (omega (arith, le))
+set_past (f ∷ flags) (suc p) b le = ap (λ (fs : List Bool). f ∷ fs) (set_past flags p b (omega (arith, le)))
+
 flag_kept : (flags : List Bool) (p q : ℕ) → flag_in flags q ≡ true → flag_in (slice_set flags p true) q ≡ true
 flag_kept [] zero q h = h
 flag_kept [] (suc p) q h = h
@@ -250,3 +256,11 @@ pub peers_of : (sets : ℕ) (m : PointMaps) (rows : List (List ℕ)) (p line : �
 peers_of sets m rows p line peers is row all q lt e =
     subst (λ (ys : List ℕ). holds nat_eq q ys ≡ true) (sym row)
     (subst (λ (r : ℕ). holds nat_eq q (row_in rows r) ≡ true) (e ∙ ap (λ (x : ℕ). x % sets) (sym is)) (all q lt))
+
+pub flag_size : (c : Code) (prev : Option ℕ) (x : ℕ) (flags new : List Bool) → new ≡ (if is_use c prev x then slice_set flags x true else flags)
+    → length new ≡ length flags
+flag_size c prev x flags new is = ap length is ∙ by_test (is_use c prev x)
+  where
+    by_test : (b : Bool) → length (if b then slice_set flags x true else flags) ≡ length flags
+    by_test true = flags_size flags x
+    by_test false = refl

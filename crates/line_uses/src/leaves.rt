@@ -145,7 +145,6 @@ fn base_of(
     miss: u64,
     points: &[u32],
 ) -> u128
-    requires { length points.now < 2 ^ 32 }
     ensures { result ≡ base_of_points miss (cost_in costs.now) (code_of tables.now) (scope_in scopes.now) points.now }
 {
     let mut base = 0;
@@ -166,7 +165,6 @@ pub fn line_uses(
     miss: u64,
     points: &[u32],
 ) -> Result<BlockUses, AllocError>
-    requires { length points.now < 2 ^ 32 }
     ensures { IfOk result (λ b. b ≡ leaf_of miss costs.now tables.now scopes.now points.now) }
 {
     let base = base_of(tables, scopes, costs, miss, points);
@@ -183,7 +181,6 @@ fn all_blocks(
     miss: u64,
     blocks: &[Items<u32>],
 ) -> Result<Items<BlockUses>, AllocError>
-    requires { (b : ℕ) → length (row_in blocks.now b) < 2 ^ 32 }
     ensures { IfOk result (λ v. v ≡ map (leaf_of miss costs.now tables.now scopes.now) blocks.now) }
 {
     let mut found = Items::new(alloc);
@@ -197,7 +194,8 @@ fn all_blocks(
 ///
 /// `blocks` has the points of each block in order, `costs` the cycles of each point, at most, without a miss; a miss
 /// costs `miss` cycles. The cache has `sets` sets of `ways` lines; the line of a point is the number of its line in
-/// memory. Any numbers of sets and ways other than 0 will do, one way being a direct-mapped cache.
+/// memory. Any numbers of sets and ways other than 0 will do, one way being a direct-mapped cache. Any tables are taken;
+/// the promise is of those that are a function's.
 ///
 /// # Errors
 ///
@@ -212,11 +210,11 @@ pub fn uses(
     miss: u64,
 ) -> Result<LineUses, AllocError>
     requires count { length tables.now.home < 2 ^ 32 }
-    requires inside { (b p : ℕ) → holds nat_eq p (row_in blocks.now b) ≡ true → p < length tables.now.home }
-    requires small { (b : ℕ) → length (row_in blocks.now b) < 2 ^ 32 }
     requires some_set { 0 < sets }
     requires some_way { 0 < ways }
-    ensures { ArePointMaps tables.now → IfOk result (AreUsesOf sets ways miss tables.now blocks.now costs.now) }
+    ensures { ArePointMaps tables.now
+        → ((b p : ℕ) → holds nat_eq p (row_in blocks.now b) ≡ true → p < length tables.now.home)
+        → IfOk result (AreUsesOf sets ways miss tables.now blocks.now costs.now) }
 {
     let scopes = scopes_of(alloc, tables, blocks, sets, ways)?;
     let found = all_blocks(alloc, tables, scopes.as_slice(), costs, miss, blocks)?;

@@ -78,21 +78,22 @@ pub(crate) fn flag_of(flags: &[bool], point: u32) -> bool
 }
 
 /// Sets the flag of a point, where it is a use.
+#[tactic(auto, using(crate::proofs::OrderLemmas::set_past))]
 fn flag_use(flags: &mut Vec<bool>, tables: &PointTables, before: Option<u32>, point: u32)
-    requires { point < length flags.old.items }
     ensures { flags.new.items ≡ (if is_use (code_of tables.now) before point then slice_set flags.old.items point true
         else flags.old.items) }
 {
-    if starts_use(tables, before, point) {
+    if starts_use(tables, before, point) && (point as usize) < flags.len() {
         flags[point as usize] = true;
     }
 }
 
 /// Sets the flags of the uses among a block's points.
 fn flag_block(flags: &mut Vec<bool>, tables: &PointTables, points: &[u32])
-    requires { (p : ℕ) → holds nat_eq p points.now ≡ true → p < length flags.old.items }
-    ensures kept { (q : ℕ) → flag_in flags.old.items q ≡ true → flag_in flags.new.items q ≡ true }
-    ensures all { (q : ℕ) → holds nat_eq q (use_points (code_of tables.now) None points.now) ≡ true
+    ensures kept { ((p : ℕ) → holds nat_eq p points.now ≡ true → p < length flags.old.items)
+        → (q : ℕ) → flag_in flags.old.items q ≡ true → flag_in flags.new.items q ≡ true }
+    ensures all { ((p : ℕ) → holds nat_eq p points.now ≡ true → p < length flags.old.items)
+        → (q : ℕ) → holds nat_eq q (use_points (code_of tables.now) None points.now) ≡ true
         → flag_in flags.new.items q ≡ true }
     ensures size { length flags.new.items ≡ length flags.old.items }
 {
@@ -109,9 +110,9 @@ pub(crate) fn flag_uses(
     tables: &PointTables,
     blocks: &[Items<u32>],
 ) -> Result<Vec<bool>, AllocError>
-    requires { (b p : ℕ) → holds nat_eq p (row_in blocks.now b) ≡ true → p < length tables.now.home }
     ensures size { IfOk result (λ v. length v.items ≡ length tables.now.home) }
-    ensures all { IfOk result (λ v. (q : ℕ) → holds nat_eq q (all_uses (code_of tables.now) blocks.now) ≡ true
+    ensures all { ((b p : ℕ) → holds nat_eq p (row_in blocks.now b) ≡ true → p < length tables.now.home)
+        → IfOk result (λ v. (q : ℕ) → holds nat_eq q (all_uses (code_of tables.now) blocks.now) ≡ true
         → flag_in v.items q ≡ true) }
 {
     let mut flags = std::vec![in alloc; false; tables.len()]?;

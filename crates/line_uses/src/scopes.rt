@@ -188,10 +188,11 @@ pub(crate) fn scopes_of(
     ways: usize,
 ) -> Result<Vec<Option<u32>>, AllocError>
     requires count { length tables.now.home < 2 ^ 32 }
-    requires inside { (b p : ℕ) → holds nat_eq p (row_in blocks.now b) ≡ true → p < length tables.now.home }
     requires some_set { 0 < sets }
     requires some_way { 0 < ways }
-    ensures { ArePointMaps tables.now → IfOk result (λ v. AreScopesOf sets ways tables.now blocks.now v.items) }
+    ensures { ArePointMaps tables.now
+        → ((b p : ℕ) → holds nat_eq p (row_in blocks.now b) ≡ true → p < length tables.now.home)
+        → IfOk result (λ v. AreScopesOf sets ways tables.now blocks.now v.items) }
 {
     let flags = flag_uses(alloc, tables, blocks)?;
     let lines = tables.lines();

@@ -17,14 +17,14 @@ set_scopes-requires-clause-all c = λ q lt.
     (c.in_ok-order.ensures q (search rules)))))
 
 pub returns : goal.returns
-returns c = λ maps.
+returns c = λ maps inside.
     let due = all_uses (code_of c.args.tables.now) c.args.blocks.now in
     none_left c.args.sets c.args.ways c.args.tables.now c.args.blocks.now c.set_scopes.new.scopes.items
     (c.in_ok-set_scopes.ensures maps due
     (subst (λ (fs : List Bool). (q : ℕ) → holds nat_eq q due ≡ true → flag_in fs q ≡ true) (sym c.as_slice-2.ensures.value)
-    c.in_ok-flags.ensures.all)
+    (c.in_ok-flags.ensures.all inside))
     (all_left c.args.sets c.args.ways c.args.tables.now due c.as_slice-4.result.now c.in_ok-scopes.scopes.items c.in_ok-scopes.ensures.none
     (λ p h.
     let b = use_in_block (code_of c.args.tables.now) c.args.blocks.now p h in
-    let lt : p < length c.args.tables.now.home = c.requires.inside b.0 p b.1 in
+    let lt : p < length c.args.tables.now.home = inside b.0 p b.1 in
     subst (λ (xs : List ℕ). holds nat_eq p xs ≡ true) (sym c.as_slice-4.ensures.value) (c.in_ok-order.ensures p (search rules)))))
