@@ -36,7 +36,7 @@ module _ (m : PointMaps) where
   inside_all : (q : ℕ) → inside m 0 q ≡ nat_lt (block_of m q) (length m.around)
   inside_all q = refl
 
-  inside_loop : (d q : ℕ) → d ≢ 0 → inside m d q ≡ holds nat_eq d (row_in m.around (block_of m q))
+  pub inside_loop : (d q : ℕ) → d ≢ 0 → inside m d q ≡ holds nat_eq d (row_in m.around (block_of m q))
   inside_loop d q ne =
       elim (eqb_tells d 0) as (λ _. inside m d q ≡ holds nat_eq d (row_in m.around (block_of m q))) [
         | inl t ↦ absurd (ne t.1)

@@ -1,3 +1,4 @@
+pub mod BlockRows
 pub mod Leaves
 pub mod PointMaps
 pub mod Scopes

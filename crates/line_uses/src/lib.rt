@@ -18,6 +18,6 @@ mod scopes;
 mod searches;
 mod tables;
 
-pub use laws::uses_agree;
+pub use laws::{blocks_of_a_nest_are_a_function, uses_agree};
 pub use leaves::{BlockUses, LineUses, uses};
 pub use tables::PointTables;
