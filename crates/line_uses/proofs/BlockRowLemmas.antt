@@ -1,5 +1,5 @@
 -- Tables of a flow graph's blocks with its nest are what the search for scopes wants.
-use Rattle.std.proofs.Common.{◌≡◌, ◌≢◌, ℕ, zero, suc, ◌+◌, ◌-◌, ◌<◌, ◌≤◌, ◌⊎◌, inl, inr, Bool, true, false, List, [], ◌∷◌, ◌++◌}
+use Rattle.std.proofs.Common.{◌≡◌, ◌≢◌, ℕ, zero, suc, ◌-◌, ◌<◌, ◌≤◌, ◌⊎◌, inl, inr, true, false, List, [], ◌∷◌, ◌++◌}
 use Rattle.std.proofs.Common.{length, refl, sym, ap, ◌∙◌, subst, arith}
 use Rattle.std.specs.Prelude.{nat_eq, nat_lt, if◌then◌else◌, slice_index_or}
 use Rattle.std.specs.List.{AllByRecursion}
@@ -71,7 +71,8 @@ module _ (m : PointMaps) (d : ℕ) where
   step a q e = ([], tt, e)
 
   -- from a row's first point to each, and from each to its last
-  from_first : (p : ℕ) (qs : List ℕ) (y : ℕ) → Leading (Leads m) p qs → AllByRecursion In_loop (p ∷ qs) → holds nat_eq y (p ∷ qs) ≡ true → Maybe p y
+  from_first : (p : ℕ) (qs : List ℕ) (y : ℕ) → Leading (Leads m) p qs → AllByRecursion In_loop (p ∷ qs) → holds nat_eq y (p ∷ qs) ≡ true
+      → Maybe p y
   from_first p [] y lead all h =
       elim (or_cases (nat_eq y p) false h) as (λ _. Maybe p y) [
         | inl t ↦ inl (sym (eqb-true y p t))
@@ -83,7 +84,8 @@ module _ (m : PointMaps) (d : ℕ) where
         | inr t ↦ inr (after_way p q y all.1.0 (step p q lead.0) (from_first q qs y lead.1 all.1 t))
       ]
 
-  to_last : (p : ℕ) (qs : List ℕ) (x : ℕ) → Leading (Leads m) p qs → AllByRecursion In_loop (p ∷ qs) → holds nat_eq x (p ∷ qs) ≡ true → Maybe x (last_or p qs)
+  to_last : (p : ℕ) (qs : List ℕ) (x : ℕ) → Leading (Leads m) p qs → AllByRecursion In_loop (p ∷ qs) → holds nat_eq x (p ∷ qs) ≡ true
+      → Maybe x (last_or p qs)
   to_last p [] x lead all h =
       elim (or_cases (nat_eq x p) false h) as (λ _. Maybe x p) [
         | inl t ↦ inl (eqb-true x p t)
@@ -94,19 +96,26 @@ module _ (m : PointMaps) (d : ℕ) where
       elim (or_cases (nat_eq x p) (holds nat_eq x (q ∷ qs)) h) as (λ _. Maybe x (last_or q qs)) [
         | inl t ↦
             inr (subst (λ (z : ℕ). Walks z (last_or q qs)) (sym (eqb-true x p t))
-            (after_way p q (last_or q qs) all.1.0 (step p q lead.0) (rest q lead.1 all.1 (or_left (nat_eq q q) (holds nat_eq q qs) (eq-eqb q q refl)))))
+            (after_way p q (last_or q qs) all.1.0 (step p q lead.0) (rest q lead.1 all.1
+            (or_left (nat_eq q q) (holds nat_eq q qs) (eq-eqb q q refl)))))
         | inr t ↦ rest x lead.1 all.1 t
       ]
 
   all_held : (xs : List ℕ) → ((q : ℕ) → holds nat_eq q xs ≡ true → In_loop q) → AllByRecursion In_loop xs
   all_held [] f = tt
-  all_held (x ∷ xs) f = (f x (or_left (nat_eq x x) (holds nat_eq x xs) (eq-eqb x x refl)), all_held xs (λ q h. f q (or_right (nat_eq q x) (holds nat_eq q xs) h)))
+  all_held (x ∷ xs) f = (
+    f x (or_left (nat_eq x x) (holds nat_eq x xs) (eq-eqb x x refl)),
+    all_held xs
+        (λ q h. f q (or_right (nat_eq q x) (holds nat_eq q xs) h)),
+  )
 
-  row_first : (row : List ℕ) (y : ℕ) → IsSequence (Leads m) row → ((q : ℕ) → holds nat_eq q row ≡ true → In_loop q) → holds nat_eq y row ≡ true → Maybe (first_or 0 row) y
+  row_first : (row : List ℕ) (y : ℕ) → IsSequence (Leads m) row → ((q : ℕ) → holds nat_eq q row ≡ true → In_loop q)
+      → holds nat_eq y row ≡ true → Maybe (first_or 0 row) y
   row_first [] y s all h = absurd s
   row_first (p ∷ qs) y s all h = from_first p qs y s (all_held (p ∷ qs) all) h
 
-  row_last : (row : List ℕ) (x : ℕ) → IsSequence (Leads m) row → ((q : ℕ) → holds nat_eq q row ≡ true → In_loop q) → holds nat_eq x row ≡ true → Maybe x (last_or 0 row)
+  row_last : (row : List ℕ) (x : ℕ) → IsSequence (Leads m) row → ((q : ℕ) → holds nat_eq q row ≡ true → In_loop q)
+      → holds nat_eq x row ≡ true → Maybe x (last_or 0 row)
   row_last [] x s all h = absurd s
   row_last (p ∷ qs) x s all h = to_last p qs x s (all_held (p ∷ qs) all) h
 
@@ -148,11 +157,15 @@ module _ (flow : Flow) (n : LoopNest) (rows : List (List ℕ)) (m : PointMaps) (
   is_in d q ne h = inside_loop m d q ne ∙ ap (holds nat_eq d) (around_is (block_of m q)) ∙ h
 
   laws : AreLoops (loops_of flow n) (edge flow) (within_by flow (around_of n)) flow.entry (depth_of n) (λ d. 16 - depth_of n d)
-      × IsRound (flow_with (loops_of flow n) (edge flow) (within_by flow (around_of n)) (λ b. false) flow.entry) (depth_of n) (round_by (around_of n))
+      × IsRound (flow_with (loops_of flow n) (edge flow) (within_by flow (around_of n)) (λ b. false) flow.entry) (depth_of n)
+      (round_by (around_of n))
   laws =
-      let c = closes flow nest.0 nest.1 k.reduced k.rises in
-      (are_loops flow nest.0.closed nest.1 c reach k.rises (header_of flow n) (parent_of n) (inner_of n) (depth_of n) (around_of n) 16 k.round,
-       is_round flow nest.0.closed nest.1 c reach k.rises (header_of flow n) (parent_of n) (inner_of n) (depth_of n) (around_of n) 16 k.round (λ b. false))
+      let c = closes flow nest.0 nest.1 k.reduced k.rises in (
+        are_loops flow nest.0.closed nest.1 c reach k.rises (header_of flow n) (parent_of n) (inner_of n) (depth_of n) (around_of n) 16
+            k.round,
+        is_round flow nest.0.closed nest.1 c reach k.rises (header_of flow n) (parent_of n) (inner_of n) (depth_of n) (around_of n) 16
+            k.round (λ b. false),
+      )
 
   module _ (d : ℕ) (some : d ≢ 0) where
     abbrev Inside : ℕ → Type 0
@@ -203,13 +216,15 @@ module _ (flow : Flow) (n : LoopNest) (rows : List (List ℕ)) (m : PointMaps) (
 
   -- ---- loops round a block
 
-  rising_places : (f : ℕ → ℕ) (xs : List ℕ) (i j : ℕ) → Rising f xs → i < j → j < length xs → f (slice_index_or xs i 0) < f (slice_index_or xs j 0)
+  rising_places : (f : ℕ → ℕ) (xs : List ℕ) (i j : ℕ) → Rising f xs → i < j → j < length xs
+      → f (slice_index_or xs i 0) < f (slice_index_or xs j 0)
   rising_places f [] i j r lt l = absurd (omega (arith, l))
   rising_places f (x ∷ xs) i zero r lt l = absurd (omega (arith, lt))
   rising_places f (x ∷ xs) zero (suc j) r lt l = r.0 (slice_index_or xs j 0) (at_place xs j 0 (omega (arith, l)))
   rising_places f (x ∷ xs) (suc i) (suc j) r lt l = rising_places f xs i j r.1 (omega (arith, lt)) (omega (arith, l))
 
-  one_place : (f : ℕ → ℕ) (xs : List ℕ) (i j : ℕ) → Rising f xs → i < length xs → j < length xs → slice_index_or xs i 0 ≡ slice_index_or xs j 0 → i ≡ j
+  one_place : (f : ℕ → ℕ) (xs : List ℕ) (i j : ℕ) → Rising f xs → i < length xs → j < length xs
+      → slice_index_or xs i 0 ≡ slice_index_or xs j 0 → i ≡ j
   one_place f xs i j r li lj e = by_order i j (λ lt. (let a = rising_places f xs i j r lt lj in let s = ap f e in omega (arith, a, s)))
       (λ lt. (let a = rising_places f xs j i r lt li in let s = ap f e in omega (arith, a, s)))
 
@@ -237,7 +252,8 @@ module _ (flow : Flow) (n : LoopNest) (rows : List (List ℕ)) (m : PointMaps) (
       by_depth (suc e) is =
           let same : slice_index_or (around_of n b) e 0 ≡ c = sym (ap (round_by (around_of n) b) is) ∙ laws.1.own c b in_c in
           elim (small_or e (length (around_of n b))) as (λ _. depth_of n c ≡ suc d) [
-            | inl lt ↦ is ∙ ap suc (one_place (λ x. nest.1 (header_of flow n x)) (around_of n b) e d (k.round.rising b) lt (omega (arith, le)) same)
+            | inl lt ↦ is ∙ ap suc (one_place (λ x. nest.1 (header_of flow n x)) (around_of n b) e d (k.round.rising b) lt
+                (omega (arith, le)) same)
             | inr far ↦ absurd (ne (sym same ∙ beyond (around_of n b) e 0 far))
           ]
 
@@ -247,12 +263,14 @@ module _ (flow : Flow) (n : LoopNest) (rows : List (List ℕ)) (m : PointMaps) (
   nested b x (suc d) e le most i =
       let c = round_by (around_of n) b (suc d) in
       let size : suc d ≤ length (around_of n b) = subst (λ (r : List ℕ). suc d ≤ length r) (around_is b) most in
-      let same : (a : ℕ) → loop_at m b a ≡ round_by (around_of n) b a = λ a. ap (λ (r : List ℕ). slice_index_or (0 ∷ r) a 0) (around_is b) in
+      let same : (a : ℕ) → loop_at m b a ≡ round_by (around_of n) b a = λ a. ap (λ (r : List ℕ). slice_index_or (0 ∷ r) a 0) (around_is b)
+      in
       let deep = depth_is b d size in
       let there : holds nat_eq c (around_of n b) ≡ true = at_place (around_of n b) d 0 (omega (arith, size)) in
       let ne = (k.round.inside c b there).0 in
       let in_b : within_by flow (around_of n) c b ≡ true = within_here c b ne there in
-      let in_x : within_by flow (around_of n) c (block_of m x) ≡ true = sym (inside_is c x) ∙ subst (λ (z : ℕ). inside m z x ≡ true) (same (suc d)) i in
+      let in_x : within_by flow (around_of n) c (block_of m x) ≡ true = sym (inside_is c x)
+      ∙ subst (λ (z : ℕ). inside m z x ≡ true) (same (suc d)) i in
       subst (λ (z : ℕ). inside m z x ≡ true) (sym (same e)) (inside_is (round_by (around_of n) b e) x
       ∙ laws.1.outer c (block_of m x) b e in_x in_b (omega (arith, le, deep)))
     where
@@ -267,7 +285,8 @@ module _ (flow : Flow) (n : LoopNest) (rows : List (List ℕ)) (m : PointMaps) (
     where
       by_size : (l : ℕ) → length (around_of n b) ≡ l → length (around_of n b) ≤ 16
       by_size zero e = omega (arith, e)
-      by_size (suc l) e = let a = depth_is b l (omega (arith, e)) in let low = k.round.low (round_by (around_of n) b (suc l)) in omega (arith, a, low, e)
+      by_size (suc l) e = let a = depth_is b l (omega (arith, e)) in let low = k.round.low (round_by (around_of n) b (suc l)) in omega
+          (arith, a, low, e)
 
   pub are_maps : ArePointMaps m
   are_maps =

@@ -129,7 +129,8 @@ pub middle_high : (a b : ℕ) → a < b → (a + b) / 2 < b
 middle_high a b lt = omega (arith, lt)
 
 -- the answers of a search in the loop of a depth
-pub in_loop : (m : PointMaps) (p d n : ℕ) → n ≡ loop_at m (block_of m p) d → ArePointMaps m → p < length m.home → d ≤ depth_of m p → inside m n p ≡ true
+pub in_loop : (m : PointMaps) (p d n : ℕ) → n ≡ loop_at m (block_of m p) d → ArePointMaps m → p < length m.home → d ≤ depth_of m p
+    → inside m n p ≡ true
 in_loop m p d n is are lt le = subst (λ (k : ℕ). inside m k p ≡ true) (sym is) (own_loop m p d are lt le)
 
 pub many_in_loop : (sets ways : ℕ) (m : PointMaps) (p d n : ℕ) → n ≡ loop_at m (block_of m p) d

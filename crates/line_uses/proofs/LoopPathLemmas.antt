@@ -1,22 +1,20 @@
 -- In a loop of a nest each block leads to each inside it.
-use Rattle.std.proofs.Common.{◌≡◌, ◌≢◌, ℕ, zero, suc, ◌+◌, ◌<◌, ◌≤◌, ◌⊎◌, inl, inr, Bool, true, false, List, [], ◌∷◌, ◌++◌}
-use Rattle.std.proofs.Common.{length, refl, sym, ap, ◌∙◌, subst, arith}
+use Rattle.std.proofs.Common.{◌≡◌, ◌≢◌, ℕ, zero, suc, ◌<◌, ◌⊎◌, inl, inr, true, List, [], ◌∷◌, ◌++◌}
+use Rattle.std.proofs.Common.{refl, sym, ap, ◌∙◌, subst, arith}
 use Rattle.std.specs.Prelude.{nat_eq, nat_lt, map, Option, Some, None, slice_get, is_some, unwrap_or}
 use Rattle.std.specs.List.{AllByRecursion}
 use Rattle.std.proofs.lemmas.Bool.{cases_Bool, cond-false, or_right, false≢true}
-use Rattle.std.proofs.lemmas.Bool.Decides.{eqb_tells, nat_tests}
+use Rattle.std.proofs.lemmas.Bool.Decides.{eqb_tells}
 use Rattle.graph_search.specs.NodeLists.{holds}
 use Rattle.graph_search.specs.Flows.{Flow, IsBounded, edge, leads}
-use Rattle.graph_search.specs.Walks.{Avoids, Reached, Walk, aside}
+use Rattle.graph_search.specs.Walks.{Avoids, Reached, Walk}
 use Rattle.graph_search.proofs.ListLemmas.{holds_first, nat_equality}
-use Rattle.graph_search.proofs.SearchLemmas.{holds_at}
-use Rattle.graph_search.proofs.WalkLemmas.{avoids_end}
-use Rattle.graph_reduction.specs.Loops.{ClosesLoops, InLoop}
+use Rattle.graph_reduction.specs.Loops.{InLoop}
 use Rattle.graph_reduction.specs.Reduction.{State}
 use Rattle.interval_loops.specs.declared.nest.LoopInfo.{LoopInfo}
 use Rattle.interval_loops.specs.declared.nest.LoopNest.{LoopNest}
 use Rattle.interval_loops.specs.Loops.{AreLoops}
-use Rattle.interval_loops.specs.Nests.{IsNestIn, around_of, depth_of, header_of, header_or, loops_of}
+use Rattle.interval_loops.specs.Nests.{IsNestIn, around_of, header_of, header_or, loops_of}
 use Rattle.interval_loops.specs.Rounds.{within_by}
 use Rattle.interval_loops.specs.Tables.{IsHeader}
 use Rattle.interval_loops.proofs.ClosingLemmas.{closes}
@@ -123,10 +121,12 @@ module _ (flow : Flow) (n : LoopNest) (s : State) (rank : ℕ → ℕ) (is : IsN
           let here : h ≡ info.header = ap (header_of flow n) is_suc ∙ ap (header_or flow.count) get in
           subst (IsHeader s.closed) (sym here) ((is.loops.headers info.header).0 (in_map n.loops e info get))
         where
-          in_map : (xs : List LoopInfo) (k : ℕ) (x : LoopInfo) → slice_get xs k ≡ Some x → holds nat_eq x.header (map (λ (y : LoopInfo). y.header) xs) ≡ true
+          in_map : (xs : List LoopInfo) (k : ℕ) (x : LoopInfo) → slice_get xs k ≡ Some x
+              → holds nat_eq x.header (map (λ (y : LoopInfo). y.header) xs) ≡ true
           in_map [] zero x g = absurd (none_some LoopInfo x g)
           in_map [] (suc k) x g = absurd (none_some LoopInfo x g)
-          in_map (y ∷ ys) zero x g = subst (λ (z : LoopInfo). holds nat_eq z.header (map (λ (v : LoopInfo). v.header) (y ∷ ys)) ≡ true) (some_same LoopInfo y x g)
+          in_map (y ∷ ys) zero x g = subst (λ (z : LoopInfo). holds nat_eq z.header (map (λ (v : LoopInfo). v.header) (y ∷ ys)) ≡ true)
+              (some_same LoopInfo y x g)
               (holds_first ℕ nat_equality y.header (map (λ (v : LoopInfo). v.header) ys))
           in_map (y ∷ ys) (suc k) x g = holds_later x.header y.header (map (λ (v : LoopInfo). v.header) ys) (in_map ys k x g)
 
@@ -138,7 +138,8 @@ module _ (flow : Flow) (n : LoopNest) (s : State) (rank : ℕ → ℕ) (is : IsN
       by_loop (inl t) = numbered d refl t
       by_loop (inr t) = (t.0, t.2)
 
-  joined : (a : ℕ) (us : List ℕ) (q : ℕ) (vs : List ℕ) (b : ℕ) → Path (edge flow) a us q → Path (edge flow) q vs b → Path (edge flow) a (vs ++ q ∷ us) b
+  joined : (a : ℕ) (us : List ℕ) (q : ℕ) (vs : List ℕ) (b : ℕ) → Path (edge flow) a us q → Path (edge flow) q vs b
+      → Path (edge flow) a (vs ++ q ∷ us) b
   joined a us q [] b p k = (k, p)
   joined a us q (v ∷ vs) b p k = (k.0, joined a us q vs v p k.1)
 

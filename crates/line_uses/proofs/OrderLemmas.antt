@@ -257,7 +257,8 @@ peers_of sets m rows p line peers is row all q lt e =
     subst (λ (ys : List ℕ). holds nat_eq q ys ≡ true) (sym row)
     (subst (λ (r : ℕ). holds nat_eq q (row_in rows r) ≡ true) (e ∙ ap (λ (x : ℕ). x % sets) (sym is)) (all q lt))
 
-pub flag_size : (c : Code) (prev : Option ℕ) (x : ℕ) (flags new : List Bool) → new ≡ (if is_use c prev x then slice_set flags x true else flags)
+pub flag_size : (c : Code) (prev : Option ℕ) (x : ℕ) (flags new : List Bool)
+    → new ≡ (if is_use c prev x then slice_set flags x true else flags)
     → length new ≡ length flags
 flag_size c prev x flags new is = ap length is ∙ by_test (is_use c prev x)
   where

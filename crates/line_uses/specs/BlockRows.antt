@@ -1,11 +1,11 @@
 -- Tables that come from a flow graph of blocks with its nest of loops, and the points of each block in order.
-use Rattle.std.specs.Prelude.{◌≡◌, ◌≢◌, ℕ, ◌<◌, ◌^◌, true, List, [], ◌∷◌, nat_eq, length}
+use Rattle.std.specs.Prelude.{◌≡◌, ℕ, ◌<◌, ◌^◌, true, List, [], ◌∷◌, nat_eq, length}
 use Rattle.graph_search.specs.NodeLists.{holds}
 use Rattle.graph_search.specs.Rows.{row_in}
 use Rattle.graph_search.specs.Flows.{Flow, edge}
 use Rattle.interval_loops.specs.declared.nest.LoopNest.{LoopNest}
 use Rattle.interval_loops.specs.Rounds.{first_or, last_or}
-use Rattle.line_uses.specs.PointMaps.{PointMaps, block_of, code_of}
+use Rattle.line_uses.specs.PointMaps.{PointMaps, block_of}
 
 -- each point leads to the next
 abbrev pub Leading : (ℕ → ℕ → Type 0) → ℕ → List ℕ → Type 0

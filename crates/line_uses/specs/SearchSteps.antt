@@ -38,4 +38,5 @@ backward_step m d line met r = filter (picks m d line met) (row_in m.before r)
 -- marks of the search forward from a line: where they say a line, they are that line's
 pub record AreForward (m : PointMaps) (marks : LineMarks) : Type 0 where
   pub size : marks.marks.count ≡ length m.home + 1
-  pub known : ArePointMaps m → (l : ℕ) → marks.line ≡ Some l → TestsFollowing (code_of m) (inside m 0) l (picks m 0 l marks.marks.nodes)
+  pub known : ArePointMaps m → (l : ℕ) → marks.line ≡ Some l
+      → TestsFollowing (code_of m) (inside m 0) l (picks m 0 l marks.marks.nodes)

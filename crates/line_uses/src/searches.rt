@@ -209,7 +209,8 @@ fn mark_following(
     requires all { HasLine tables.now line peers.now }
     requires forward { AreForward tables.now forward.old }
     ensures forward { OnOk result (AreForward tables.now forward.new) }
-    ensures exact { ArePointMaps tables.now → (p : ℕ) → inside tables.now number p ≡ true → line_at tables.now.lines p ≡ line
+    ensures exact { ArePointMaps tables.now → (p : ℕ) → inside tables.now number p ≡ true
+        → line_at tables.now.lines p ≡ line
         → OnOk result (TestsFollowing (code_of tables.now) (inside tables.now number) line
         (picks tables.now number line forward.new.marks.nodes)) }
 {
@@ -301,9 +302,11 @@ pub(crate) fn is_few(
     requires inside { point < length tables.now.home }
     requires some_set { 0 < sets }
     requires some_way { 0 < ways }
-    ensures fewer { ArePointMaps tables.now → inside tables.now number point ≡ true → IfOk result (λ b. b ≡ true → AtLeast ways
+    ensures fewer { ArePointMaps tables.now → inside tables.now number point ≡ true
+        → IfOk result (λ b. b ≡ true → AtLeast ways
         (IsYounger (code_of tables.now) sets (inside tables.now number) point) → ⊥) }
-    ensures many { ArePointMaps tables.now → inside tables.now number point ≡ true → IfOk result (λ b. b ≡ false → AtLeast ways
+    ensures many { ArePointMaps tables.now → inside tables.now number point ≡ true
+        → IfOk result (λ b. b ≡ false → AtLeast ways
         (IsYounger (code_of tables.now) sets (inside tables.now number) point)) }
     ensures back { OnOk result (marks.new.count ≡ length tables.now.home) }
     ensures forward { OnOk result (AreForward tables.now forward.new) }

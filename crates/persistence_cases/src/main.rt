@@ -180,7 +180,13 @@ fn point_edges(
     let mut before = empty_rows(alloc, count)?;
     for at in 0..blocks.len() {
         if let Some(row) = edges.get(at) {
-            add_edges(&mut next, &mut before, blocks, blocks[at].as_slice(), row.as_slice())?;
+            add_edges(
+                &mut next,
+                &mut before,
+                blocks,
+                blocks[at].as_slice(),
+                row.as_slice(),
+            )?;
         }
     }
     Ok(PointEdges { next, before })

@@ -10,7 +10,8 @@ pub loop-point-init : goal.loop-point-init
 loop-point-init c =
     record {
       size = refl;
-      flagged = λ inside. none_flagged (code_of c.args.tables.now) (use_points (code_of c.args.tables.now) None c.args.points.now) c.args.flags.now.items;
+      flagged = λ inside. none_flagged (code_of c.args.tables.now) (use_points (code_of c.args.tables.now) None c.args.points.now)
+          c.args.flags.now.items;
     }
 
 pub loop-point-preserved : goal.loop-point-preserved

@@ -11,13 +11,13 @@ pub loop-block-preserved : goal.loop-block-preserved
 loop-block-preserved c =
     let is : c.as_slice.result.now ≡ row_in c.args.blocks.now c.loop-block.block-index =
     c.as_slice.ensures ∙ item_in c.args.blocks.now c.loop-block.block-index c.block-item.result c.block-item.result
-        c.loop-block-test.true c.block-item.is in
+    c.loop-block-test.true c.block-item.is in
     record {
       size = c.flag_block.ensures.size ∙ c.loop-block.invariant.size;
       flagged = λ inside.
           let here : (p : ℕ) → holds nat_eq p c.as_slice.result.now ≡ true → p < length c.loop-block.flags.items = λ p h.
-              subst (λ (n : ℕ). p < n) (sym c.loop-block.invariant.size)
-              (inside c.loop-block.block-index p (subst (λ (xs : List ℕ). holds nat_eq p xs ≡ true) is h)) in
+          subst (λ (n : ℕ). p < n) (sym c.loop-block.invariant.size)
+          (inside c.loop-block.block-index p (subst (λ (xs : List ℕ). holds nat_eq p xs ≡ true) is h)) in
           block_flags (code_of c.args.tables.now) c.loop-block.block-index c.args.blocks.now
           (all_uses (code_of c.args.tables.now) c.args.blocks.now) c.as_slice.result.now (replicate (length c.args.tables.now.home) false)
           c.loop-block.flags.items c.flag_block.new.flags.items c.loop-block-test.true is c.flag_block.ensures.size

@@ -8,7 +8,7 @@ returns-then-not-some-clause-scope c = λ maps.
     let none : c.in_ok-some.some ≡ false = search rules in
     let size = c.depth_at-depth.ensures.exact maps in
     let here = in_loop c.args.tables.now c.args.point c.depth_at-depth.result c.loop_at.result c.loop_at.ensures maps c.requires.inside
-        (omega (arith, size)) in
+    (omega (arith, size)) in
     none_at_all c.args.sets c.args.ways c.args.tables.now c.args.point maps
     (many_in_loop c.args.sets c.args.ways c.args.tables.now c.args.point (depth_of c.args.tables.now c.args.point) c.loop_at.result
     (c.loop_at.ensures ∙ ap (loop_at c.args.tables.now (block_of c.args.tables.now c.args.point)) size)
@@ -22,11 +22,13 @@ loop-low-init c =
       small = c.depth_at-depth.ensures.low;
       between = λ maps.
           let size = c.depth_at-depth.ensures.exact maps in
-          let here = in_loop c.args.tables.now c.args.point c.depth_at-depth.result c.loop_at.result c.loop_at.ensures maps c.requires.inside
-              (omega (arith, size)) in
+          let here = in_loop c.args.tables.now c.args.point c.depth_at-depth.result c.loop_at.result c.loop_at.ensures maps
+          c.requires.inside
+          (omega (arith, size)) in
           record {
             most = omega (arith, size);
-            few = few_in_loop c.args.sets c.args.ways c.args.tables.now c.args.point c.depth_at-depth.result c.loop_at.result c.loop_at.ensures
+            few = few_in_loop c.args.sets c.args.ways c.args.tables.now c.args.point c.depth_at-depth.result c.loop_at.result
+                c.loop_at.ensures
                 (c.in_ok-some.ensures.fewer maps here some);
             many = λ e lt. absurd (omega (arith, lt));
           };
@@ -45,7 +47,7 @@ loop-low-preserved-then-few c =
           let old = c.loop-low.invariant.between maps in
           let most = old.most in
           let here = in_loop c.args.tables.now c.args.point ((c.loop-low.low + c.loop-low.high) / 2) c.loop_at-in-loop-low.result
-              c.loop_at-in-loop-low.ensures maps c.requires.inside (omega (arith, high, most)) in
+          c.loop_at-in-loop-low.ensures maps c.requires.inside (omega (arith, high, most)) in
           record {
             most = omega (arith, high, most);
             few = few_in_loop c.args.sets c.args.ways c.args.tables.now c.args.point ((c.loop-low.low + c.loop-low.high) / 2)
@@ -66,7 +68,7 @@ loop-low-preserved c =
           let old = c.loop-low.invariant.between maps in
           let most = old.most in
           let here = in_loop c.args.tables.now c.args.point ((c.loop-low.low + c.loop-low.high) / 2) c.loop_at-in-loop-low.result
-              c.loop_at-in-loop-low.ensures maps c.requires.inside (omega (arith, high, most)) in
+          c.loop_at-in-loop-low.ensures maps c.requires.inside (omega (arith, high, most)) in
           record {
             most = most;
             few = old.few;
