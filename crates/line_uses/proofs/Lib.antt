@@ -1,0 +1,9 @@
+mod AgreementLemmas
+mod BlockRowLemmas
+mod DepthLemmas
+mod FewLemmas
+mod ForwardLemmas
+mod LeafLemmas
+mod LoopPathLemmas
+mod OrderLemmas
+mod ScopeLemmas

@@ -1,0 +1,5 @@
+pub mod BlockRows
+pub mod Leaves
+pub mod PointMaps
+pub mod Scopes
+pub mod SearchSteps

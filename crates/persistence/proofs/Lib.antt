@@ -1,0 +1,11 @@
+pub mod FewLineLemmas
+pub mod CollectLemmas
+pub mod HistoryLemmas
+pub mod MissLemmas
+pub mod OnceLemmas
+pub mod RecentLemmas
+pub mod ReturnLemmas
+pub mod RowLemmas
+pub mod ScopeLemmas
+pub mod StrongLemmas
+pub mod TraceLemmas

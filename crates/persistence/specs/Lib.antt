@@ -1,0 +1,9 @@
+pub mod BlockHistories
+pub mod BlockMisses
+pub mod Collected
+pub mod Fetches
+pub mod PointRows
+pub mod Runs
+pub mod Searches
+pub mod Spots
+pub mod Younger
