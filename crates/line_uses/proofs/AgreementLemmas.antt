@@ -91,10 +91,10 @@ same_scopes sets ways m rows s u a b q h = by_cases (scope_in s q) (scope_in u q
   where
     by_cases : (x y : Option ℕ) → scope_in s q ≡ x → scope_in u q ≡ y → scope_in s q ≡ scope_in u q
     by_cases None None e k = e ∙ sym k
-    by_cases (Some d) None e k = absurd (never_both (code_of m) sets ways (within m q) (depth_of m q) q d (a.told q d e) (b.none q h k))
-    by_cases None (Some d) e k = absurd (never_both (code_of m) sets ways (within m q) (depth_of m q) q d (b.told q d k) (a.none q h e))
+    by_cases (Some d) None e k = absurd (never_both (code_of m) sets ways (within m q) (depth_of m q) q d (a.found q d e) (b.none q h k))
+    by_cases None (Some d) e k = absurd (never_both (code_of m) sets ways (within m q) (depth_of m q) q d (b.found q d k) (a.none q h e))
     by_cases (Some d) (Some n) e k =
-        e ∙ ap Some (one_scope (code_of m) sets ways (within m q) (depth_of m q) q d n (a.told q d e) (b.told q n k)) ∙ sym k
+        e ∙ ap Some (one_scope (code_of m) sets ways (within m q) (depth_of m q) q d n (a.found q d e) (b.found q n k)) ∙ sym k
 
 pub agree : (sets ways miss : ℕ) (m : PointMaps) (rows : List (List ℕ)) (costs : List ℕ) (u v : LineUses)
     → AreUsesOf sets ways miss m rows costs u

@@ -18,7 +18,7 @@ pub none_left : (sets ways : ℕ) (m : PointMaps) (blocks : List (List ℕ)) (sc
     → AreSoFar sets ways m (all_uses (code_of m) blocks) [] scopes → AreScopesOf sets ways m blocks scopes
 none_left sets ways m blocks scopes are =
     record {
-      told = are.told;
+      found = are.found;
       none = λ p h e. elim (are.none p h e) as (λ _. IsScoped sets ways m p None) [
         | inl k ↦ k
         | inr k ↦ absurd (false≢true k)
@@ -40,15 +40,15 @@ set_other (x ∷ xs) (suc p) (suc q) s ne = set_other xs p q s (λ e. ne (ap suc
 
 pub one_set : (sets ways : ℕ) (m : PointMaps) (due left : List ℕ) (scopes : List (Option ℕ)) (p : ℕ) (s : Option ℕ) → p < length scopes
     → IsScoped sets ways m p s → AreSoFar sets ways m due (p ∷ left) scopes → AreSoFar sets ways m due left (slice_set scopes p s)
-one_set sets ways m due left scopes p s lt is are = record { told = told; none = none }
+one_set sets ways m due left scopes p s lt is are = record { found = found; none = none }
   where
-    told : (q d : ℕ) → scope_in (slice_set scopes p s) q ≡ Some d → IsScoped sets ways m q (Some d)
-    told q d e =
+    found : (q d : ℕ) → scope_in (slice_set scopes p s) q ≡ Some d → IsScoped sets ways m q (Some d)
+    found q d e =
         elim (eqb_tells q p) as (λ _. IsScoped sets ways m q (Some d)) [
           | inl t ↦
               let here : s ≡ Some d = sym (set_here scopes p s lt) ∙ ap (scope_in (slice_set scopes p s)) (sym t.1) ∙ e in
               subst (λ (x : ℕ). IsScoped sets ways m x (Some d)) (sym t.1) (subst (IsScoped sets ways m p) here is)
-          | inr t ↦ are.told q d (sym (set_other scopes p q s t.1) ∙ e)
+          | inr t ↦ are.found q d (sym (set_other scopes p q s t.1) ∙ e)
         ]
 
     none : (q : ℕ) → holds nat_eq q due ≡ true → scope_in (slice_set scopes p s) q ≡ None
@@ -122,7 +122,7 @@ use_in_block c (ps ∷ blocks) q h = by_parts (use_in_block c blocks q) (in_part
 pub all_left : (sets ways : ℕ) (m : PointMaps) (due order : List ℕ) (scopes : List (Option ℕ)) → ((p : ℕ) → scope_in scopes p ≡ None)
     → ((p : ℕ) → holds nat_eq p due ≡ true → holds nat_eq p order ≡ true) → AreSoFar sets ways m due order scopes
 all_left sets ways m due order scopes none all = record {
-  told = λ p d e. absurd (differ d (sym (none p) ∙ e));
+  found = λ p d e. absurd (differ d (sym (none p) ∙ e));
   none = λ p h e. inr
       (all p h);
 }
@@ -135,7 +135,7 @@ pub no_use_set : (sets ways : ℕ) (m : PointMaps) (flags : List Bool) (due left
     → flag_in flags p ≡ false
     → ((q : ℕ) → holds nat_eq q due ≡ true → flag_in flags q ≡ true) → AreSoFar sets ways m due (p ∷ left) scopes
     → AreSoFar sets ways m due left scopes
-no_use_set sets ways m flags due left scopes p unset all are = record { told = are.told; none = none }
+no_use_set sets ways m flags due left scopes p unset all are = record { found = are.found; none = none }
   where
     none : (q : ℕ) → holds nat_eq q due ≡ true → scope_in scopes q ≡ None → IsScoped sets ways m q None ⊎ (holds nat_eq q left ≡ true)
     none q h e =

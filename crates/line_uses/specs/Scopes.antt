@@ -34,16 +34,16 @@ abbrev pub all_uses : Code → List (List ℕ) → List ℕ
 all_uses c [] = []
 all_uses c (ps ∷ rest) = use_points c None ps ++ all_uses c rest
 
--- each scope that is told is one, and of some points those without a scope have none, but for what is left to do
+-- each scope that is given is one, and of some points those without a scope have none, but for what is left to do
 pub record AreSoFar (sets ways : ℕ) (m : PointMaps) (due left : List ℕ) (scopes : List (Option ℕ)) : Type 0 where
-  pub told : (p d : ℕ) → scope_in scopes p ≡ Some d → IsScoped sets ways m p (Some d)
+  pub found : (p d : ℕ) → scope_in scopes p ≡ Some d → IsScoped sets ways m p (Some d)
   pub none : (p : ℕ) → holds nat_eq p due ≡ true → scope_in scopes p ≡ None
       → IsScoped sets ways m p None ⊎ (holds nat_eq p left ≡ true)
 
 -- a scope where there is one, and none exactly at uses without one
 pub record AreScopesOf (sets ways : ℕ) (m : PointMaps) (blocks : List (List ℕ)) (scopes : List (Option ℕ)) : Type 0
   where
-    pub told : (p d : ℕ) → scope_in scopes p ≡ Some d → IsScoped sets ways m p (Some d)
+    pub found : (p d : ℕ) → scope_in scopes p ≡ Some d → IsScoped sets ways m p (Some d)
     pub none : (p : ℕ) → holds nat_eq p (all_uses (code_of m) blocks) ≡ true → scope_in scopes p ≡ None
         → IsScoped sets ways m p None
 

@@ -26,7 +26,7 @@ abbrev pub IsYounger : Code → ℕ → (ℕ → Bool) → ℕ → ℕ → Type 
 IsYounger c sets within p m = (m ≢ c.line p) × (m % sets ≡ c.line p % sets)
     × ((a : ℕ) × (us : List ℕ) × Leads c within p a us × (holds nat_eq m (map c.line us) ≡ true))
 
--- at least so many different numbers
+-- at least that number of different numbers
 abbrev pub AtLeast : ℕ → (ℕ → Type 0) → Type 0
 AtLeast n P = (ms : List ℕ) × Distinct nat_eq ms × ((m : ℕ) → holds nat_eq m ms ≡ true → P m) × (n ≤ length ms)
 

@@ -20,7 +20,7 @@ loop-point-preserved c =
     }
 
 pub returns : goal.returns
-returns c = λ sets p is_line all told.
+returns c = λ sets p is_line all found.
     few_noted c.args.tables.now c.args.number c.args.line c.args.ways c.args.peers.now c.loop-point.found
     (all_noted c.args.tables.now c.args.number c.args.line c.loop-point.point-index c.args.peers.now c.args.peers.now c.loop-point.found
     refl
