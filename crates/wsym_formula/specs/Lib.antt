@@ -1,1 +1,5 @@
+pub mod Keeping
+pub mod Reaching
+pub mod Tables
 pub mod Terms
+pub mod Values

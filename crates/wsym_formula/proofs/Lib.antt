@@ -1,0 +1,11 @@
+pub mod Clipping
+pub mod Equality
+pub mod Flagging
+pub mod Growing
+pub mod KeepingLaws
+pub mod Reached
+pub mod Rooting
+pub mod Splitting
+pub mod Tabling
+pub mod Valuing
+pub mod Walking
