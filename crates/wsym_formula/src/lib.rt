@@ -12,6 +12,7 @@ mod numbers;
 mod sharing;
 mod table;
 mod terms;
+mod trees;
 mod uses;
 mod values;
 
@@ -20,4 +21,5 @@ pub use nodes::Node;
 pub use numbers::Numbers;
 pub use table::{Shared, place};
 pub use terms::Term;
+pub use trees::{formulas_have_the_value_of_their_trees, from_tree};
 pub use values::{halves, value};

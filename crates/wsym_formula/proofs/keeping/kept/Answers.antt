@@ -1,4 +1,4 @@
-use Rattle.std.proofs.Common.{◌≡◌, ◌<◌, ℕ, List, Option, None, Some, length, get_or, sym, ap, subst, ◌∙◌}
+use Rattle.std.proofs.Common.{◌≡◌, ◌<◌, ℕ, List, Option, None, length, get_or, sym, ap, subst, ◌∙◌}
 use Rattle.wsym_formula.specs.Reaching.{AreUsed}
 use Rattle.wsym_formula.specs.Tables.{IsClosed, meanings}
 use Rattle.wsym_formula.specs.declared.nodes.Node.{Node}
