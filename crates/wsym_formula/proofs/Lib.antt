@@ -1,4 +1,5 @@
 pub mod Clipping
+pub mod CountLaws
 pub mod Equality
 pub mod Flagging
 pub mod Growing

@@ -1,5 +1,5 @@
 -- What a table means, node by node.
-use Rattle.std.proofs.Common.{◌≡◌, ℕ, zero, suc, ◌+◌, ◌<◌, ◌++◌, List, [], ◌∷◌, length, map, slice_get, Some, refl, sym, ap, subst, ◌∙◌, arith, append_assoc, Bool, true, false, if◌then◌else◌}
+use Rattle.std.proofs.Common.{◌≡◌, ℕ, zero, suc, ◌+◌, ◌-◌, ◌^◌, ◌<◌, ◌++◌, List, [], ◌∷◌, length, map, slice_get, Some, refl, sym, ap, subst, ◌∙◌, arith, append_assoc, Bool, true, false, if◌then◌else◌}
 use Rattle.std.proofs.lemmas.List.{get_or_append_left, append-nil, length-append}
 use Rattle.std.proofs.lemmas.Option.{get_or_from_slice_get, none-some}
 use Rattle.std.specs.List.{list_any}
@@ -77,10 +77,18 @@ inserted_extends eq ns n = by (list_any (eq n) ns)
 pub still_closed : (old new : List Node) (n : Node) → IsClosed old → IsBelow (length old) n → new ≡ insert_key ghosts.eq old n → IsClosed new
 still_closed old new n h b e = subst (λ (ns : List Node). IsClosed ns) (sym e) (inserted_closed ghosts.eq old n h b)
 
-pub still_table : (old new : List Node) (n : Node) → IsTable old → IsBelow (length old) n → new ≡ insert_key ghosts.eq old n → IsTable new
-still_table old new n h b e = record {
+inserted_few : (ns : List Node) (n : Node) → length ns < 2 ^ 32 - 1 → length (insert_key ghosts.eq ns n) < 2 ^ 32
+inserted_few ns n room = by (list_any (ghosts.eq n) ns)
+  where
+    by : (test : Bool) → length (if test then ns else ns ++ n ∷ []) < 2 ^ 32
+    by true = omega (arith, room)
+    by false = omega (arith, room, length-append ns (n ∷ []))
+
+pub still_table : (old new : List Node) (n : Node) → IsTable old → length old < 2 ^ 32 - 1 → IsBelow (length old) n → new ≡ insert_key ghosts.eq old n → IsTable new
+still_table old new n h room b e = record {
   closed = still_closed old new n h.closed b e;
   different = subst (λ (ns : List Node). AllDiffer ns) (sym e) (inserted_different old n h.different);
+  few = subst (λ (ns : List Node). length ns < 2 ^ 32) (sym e) (inserted_few old n room);
 }
 
 pub new_means : (old new : List Node) (k : ℕ) (n found : Node) → IsClosed old → IsBelow (length old) n → new ≡ insert_key ghosts.eq old n

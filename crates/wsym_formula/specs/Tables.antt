@@ -1,5 +1,5 @@
 -- Tables of nodes, and what they mean.
-use Rattle.std.specs.Prelude.{◌≡◌, ◌≢◌, ℕ, suc, ◌<◌, ◌++◌, List, [], ◌∷◌, map, get_or}
+use Rattle.std.specs.Prelude.{◌≡◌, ◌≢◌, ℕ, suc, ◌<◌, ◌^◌, ◌++◌, List, [], ◌∷◌, length, map, get_or}
 use Rattle.wsym_formula.specs.declared.nodes.Node.{Node}
 use Rattle.wsym_formula.specs.declared.nodes.Node.TheVariants as n
 use Rattle.wsym_formula.specs.declared.terms.Term.{Term}
@@ -69,3 +69,4 @@ AllDiffer (node ∷ nodes) = DiffersFrom nodes node × AllDiffer nodes
 pub record IsTable (nodes : List Node) : Type 0 where
   pub closed : IsClosed nodes
   pub different : AllDiffer nodes
+  pub few : length nodes < 2 ^ 32

@@ -5,6 +5,7 @@
 //! one is the nodes `{34|4}`, `(power 1)` over node 0, and `(sum)` over nodes 0 and 1.
 #![tactic(auto)]
 
+mod counts;
 mod keeping;
 mod leaves;
 mod nodes;
@@ -16,6 +17,7 @@ mod trees;
 mod uses;
 mod values;
 
+pub use counts::has_few_counts;
 pub use leaves::leaf_costs;
 pub use nodes::Node;
 pub use numbers::Numbers;

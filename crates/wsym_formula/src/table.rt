@@ -38,7 +38,6 @@ impl Shared {
 
     /// The number of nodes. It takes no memory.
     pub fn nodes(&self) -> u32
-        requires { length self.now < 2 ^ 32 }
         ensures { result ≡ length self.now }
     {
         self.nodes.len() as u32
