@@ -52,23 +52,13 @@ fn simplify_node(
             place_alt(table, alloc, chosen.as_slice())
         }
         Node::Power { id, body } => {
-            place_power(
-                table,
-                alloc,
-                *id,
-                numbers[*body as usize],
-                known_at(bounds, *id),
-            )
+            let at = numbers[*body as usize];
+            place_power(table, alloc, *id, at, known_at(bounds, *id))
         }
         Node::Once(body) => place_once(table, alloc, numbers[*body as usize]),
         Node::Scaled { id, body } => {
-            place_scaled(
-                table,
-                alloc,
-                *id,
-                numbers[*body as usize],
-                known_at(bounds, *id),
-            )
+            let at = numbers[*body as usize];
+            place_scaled(table, alloc, *id, at, known_at(bounds, *id))
         }
     }
 }
