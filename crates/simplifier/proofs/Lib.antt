@@ -7,5 +7,7 @@ pub mod Merging
 pub mod NormalLaws
 pub mod Revealing
 pub mod Showing
+pub mod Shrinking
 pub mod Simplifying
+pub mod TreeSizes
 pub mod UnionLaws

@@ -18,7 +18,7 @@ mod placing;
 mod simple;
 
 pub use laws::{
-    normal_forms_have_no_more_counts, normal_forms_keep_their_value,
-    simplified_terms_keep_their_value,
+    formulas_of_trees_are_small, normal_forms_are_no_larger, normal_forms_have_no_more_counts,
+    normal_forms_keep_their_value, simplified_terms_keep_their_value,
 };
 pub use simple::simplify;

@@ -22,8 +22,8 @@ abbrev pub terms_of : List Shape → ℕ → List Term
 terms_of [] depth = []
 terms_of (s ∷ shapes) depth = s.term depth ∷ terms_of shapes depth
 
--- The body of a loop at a depth: over all turns together where the scope of its uses reaches past the loop, else over the
--- turns of each entry alone.
+-- The body of a loop at a depth: over all turns together where the scope of its uses reaches past the loop, else over
+-- the turns of each entry alone.
 abbrev pub turns_term : ℕ → ℕ → ℕ → Term → Term
 turns_term id depth scope body = if nat_le scope depth then t.Power id body else t.Scaled id body
 
