@@ -44,7 +44,7 @@ fn run(alloc: Global, word: &str, tail: u128) -> Result<Multi, AllocError> {
 }
 
 /// The list that a word spells, as `{15*2,9|7}`: the union of lists of one of its runs each.
-fn list(alloc: Global, word: &str) -> Result<Multi, AllocError> {
+pub(crate) fn list(alloc: Global, word: &str) -> Result<Multi, AllocError> {
     let inner = word.trim_matches(&['{', '}']);
     let (runs, tail) = inner.split_once('|').unwrap_or(("", inner));
     let tail = number(tail);

@@ -7,14 +7,27 @@
 //! turns VALUE FACTOR CONSTANT DIVISOR              the bound (FACTOR*VALUE + CONSTANT) / DIVISOR of a loop
 //! leaf BASE MISS USES                              the costs of a block
 //! size                                             the size of the tree of a block that uses one line
+//! formula FORMULA                                  a formula, and how many nodes its table has
+//! simple BOUND BOUND FORMULA                       its normal form for the bounds of loops 1 and 2
+//! value BOUND BOUND VALUE FORMULA                  its value at a value of the parameter
+//! keep NODE FORMULA                                what a node of it reaches
+//! add LIST LIST ..                                 the numbers of constants that are put into one table
 //! ```
 //!
-//! A cost is a number of cycles, `beyond` or `unbounded`. What stands after these words says why the line is here.
+//! A cost is a number of cycles, `beyond` or `unbounded`. A bound is `-` without an atom, else `CONSTANT:DIVISOR` or
+//! `CONSTANT:DIVISOR:FACTOR`, the factor being that of the one parameter. A formula has its members before it: lists,
+//! `sum:COUNT`, `alt:COUNT`, `power:LOOP`, `once`, `scaled:LOOP`; or after `tree:MISS` it is that of a tree of
+//! `leaf:BASE:SCOPES`, `seq:COUNT`, `alt:COUNT`, `loop:LOOP` (the body, then the exit). What stands after these words
+//! says why the line is here.
 #![tactic(auto)]
 
 mod blocks;
+mod formulas;
 mod lists;
 mod numbers;
+mod tables;
+mod terms;
+mod trees;
 
 use std::alloc::{AllocError, Global};
 use std::io;
@@ -32,6 +45,7 @@ fn answer(alloc: Global, line: &str) -> Result<String, AllocError> {
         "turns" => numbers::turns(alloc, first, second, third, fourth),
         "leaf" => blocks::leaf(alloc, first, second, third),
         "size" => blocks::block_size(alloc),
+        "formula" | "simple" | "value" | "keep" | "add" => formulas::formula_call(alloc, line),
         _ => lists::list_call(alloc, call, first, second),
     }
 }

@@ -3,7 +3,7 @@ use std::alloc::{AllocError, Global};
 use wsym_terms::{Atom, Bound, Coef, Cost};
 
 /// The greatest magnitude of a number of an atom, 2^90.
-const GREATEST: u128 = 1 << 90;
+pub(crate) const GREATEST: u128 = 1 << 90;
 
 /// The number that a word spells, or 0.
 pub(crate) fn number(word: &str) -> u128 {
@@ -11,7 +11,7 @@ pub(crate) fn number(word: &str) -> u128 {
 }
 
 /// The signed number that a word spells, or 0.
-fn signed(word: &str) -> i128 {
+pub(crate) fn signed(word: &str) -> i128 {
     word.parse::<i128>().unwrap_or(0)
 }
 

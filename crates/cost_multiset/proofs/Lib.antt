@@ -1,8 +1,11 @@
 pub mod BestLaws
+pub mod CountedLaws
 pub mod EndLaws
+pub mod GatherLaws
 pub mod GroupLaws
 pub mod GrowingLaws
 pub mod JoinLaws
 pub mod MergeLaws
 pub mod PlaceLaws
 pub mod SumLaws
+pub mod UnionLaws

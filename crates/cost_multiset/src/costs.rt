@@ -1,6 +1,7 @@
-ghost use Rattle.std.specs.Prelude.{◌≡◌, ◌≢◌, ℕ, ◌+◌, ◌^◌, ◌<◌, ◌≤◌, IfOk};
-ghost use Rattle.cost_multiset.specs.CostLists.{IsDescending, grouped, merged, place, places, prefix_sum};
-ghost use Rattle.wsym_terms.specs.Costs.{cost_of, sum_of};
+ghost use Rattle.std.specs.Prelude.{[], true, ◌≡◌, ◌≢◌, ℕ, ◌+◌, ◌^◌, ◌<◌, ◌≤◌, IfOk};
+ghost use Rattle.cost_multiset.specs.CostLists.{IsDescending, descends, grouped, merged, place, places, prefix_sum};
+ghost use Rattle.cost_multiset.specs.Gathered.{all_counted, is_counted, list_groups, list_of, runs_counted};
+ghost use Rattle.wsym_terms.specs.Costs.{cost_of, is_in_range, sum_of};
 ghost use Rattle.wsym_terms.specs.Trees.{best};
 ghost use Rattle.wsym_terms.specs.declared.costs.Cost.{Cost as CostValue};
 
@@ -14,7 +15,7 @@ use std::marker::Model;
 use wsym_terms::Cost;
 
 /// So many equal costs in a row.
-#[derive(Clone, Copy)]
+#[derive(Clone, Copy, PartialEq, Eq, Hash)]
 pub struct Run {
     /// The cost, in cycles.
     pub value: Cost,
@@ -52,6 +53,24 @@ impl Multi {
         Multi { runs, tail }
     }
 
+    /// The list of one cost for ever. It takes no memory.
+    pub fn flat(alloc: Global, cost: Cost) -> Multi
+        requires { is_in_range cost ≡ true }
+        ensures { result ≡ record { runs = []; tail = cost } }
+    {
+        Multi::of(Items::new(alloc), cost)
+    }
+
+    /// The same list once more.
+    pub fn copy(&self, alloc: Global) -> Result<Multi, AllocError>
+        ensures { IfOk result (λ copy. copy ≡ self.now) }
+    {
+        Ok(Multi {
+            runs: Items::from_slice(alloc, self.runs.as_slice())?,
+            tail: self.tail,
+        })
+    }
+
     /// The runs before the tail, in descending order.
     pub fn runs(&self) -> &[Run]
         ensures { result.now ≡ self.now.runs }
@@ -64,6 +83,32 @@ impl Multi {
         ensures { result ≡ self.now.tail }
     {
         self.tail
+    }
+
+    /// A law of the list: its costs place by place determine it.
+    pub fn is_its_places(&self)
+        ensures { (n : ℕ) (costs : ℕ → CostValue) → places self.now.runs ≤ n → ((k : ℕ) → place self.now k ≡ costs k) → self.now ≡ list_of n costs }
+    {
+        let _tail = self.tail;
+    }
+
+    /// A law of the list: it descends.
+    pub fn is_descending(&self)
+        ensures { descends self.now.runs self.now.tail ≡ true }
+    {
+        let _tail = self.tail;
+    }
+
+    /// Whether all costs of the list are numbers below 2^127. It takes no memory.
+    pub fn is_counted(&self) -> bool
+        ensures { result ≡ all_counted self.now }
+    {
+        for run in self.runs.as_slice() {
+            if !is_counted(run.value) {
+                return false;
+            }
+        }
+        is_counted(self.tail)
     }
 
     /// How many places there are before the tail.
@@ -147,6 +192,16 @@ impl Multi {
         }
     }
 
+    /// The same as `group`, as one list: the descending list that has these sums at its places.
+    pub fn list_groups(&self, alloc: Global, by: Cost) -> Result<Multi, AllocError>
+        requires { by ≢ Cost.Beyond }
+        ensures { IfOk result (λ costs. costs ≡ list_groups by self.now) }
+    {
+        let costs = self.group(alloc, by)?;
+        costs.is_its_places();
+        Ok(costs)
+    }
+
     /// The sums of so many places each, at least one.
     fn group_places(&self, alloc: Global, by: u128) -> Result<Multi, AllocError>
         requires { 1 ≤ by }
@@ -160,5 +215,15 @@ impl Multi {
         }
         groups.close(tail)?;
         groups.end(tail.times(by))
+    }
+}
+
+/// Whether a cost is a number below 2^127.
+fn is_counted(cost: Cost) -> bool
+    ensures { result ≡ is_counted cost }
+{
+    match cost {
+        Cost::Fin(_) => true,
+        Cost::Beyond | Cost::Unbounded => false,
     }
 }

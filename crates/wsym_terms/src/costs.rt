@@ -3,7 +3,7 @@ ghost use Rattle.wsym_terms.specs.Costs.{cost_of, is_less, larger_of, sum_of, ti
 ghost use Rattle.wsym_terms.specs.Extents.{Finite};
 
 /// A number of cycles.
-#[derive(Clone, Copy, PartialEq, Eq)]
+#[derive(Clone, Copy, PartialEq, Eq, Hash)]
 pub enum Cost {
     /// So many cycles, below 2^127.
     Fin(u128),

@@ -1,0 +1,13 @@
+pub mod AltLaws
+pub mod Counting
+pub mod Joining
+pub mod Knowing
+pub mod Leading
+pub mod Merging
+pub mod NormalLaws
+pub mod Revealing
+pub mod Showing
+pub mod Shrinking
+pub mod Simplifying
+pub mod TreeSizes
+pub mod UnionLaws

@@ -1,0 +1,14 @@
+pub mod Clipping
+pub mod CountLaws
+pub mod Equality
+pub mod Flagging
+pub mod Growing
+pub mod KeepingLaws
+pub mod Placing
+pub mod Reached
+pub mod Rooting
+pub mod Splitting
+pub mod Tabling
+pub mod TreeValues
+pub mod Valuing
+pub mod Walking
