@@ -15,10 +15,10 @@ pub(crate) fn multiply(alloc: Global, first: &str, second: &str) -> anyhow::Resu
 /// Writes a row with its multiple of the last variable.
 fn push_derived(text: &mut String, derived: &Derived) -> Result<(), AllocError> {
     push_terms(text, derived.constant(), derived.terms())?;
-    if derived.last() != 0 {
-        write!(text, " {}*last", derived.last())?;
+    match derived.last() {
+        0 => Ok(()),
+        last => write!(text, " {last}*last"),
     }
-    Ok(())
 }
 
 /// Writes the places of the given rows and how often each is taken, and what their sum is divided by.
@@ -87,10 +87,13 @@ fn combined(
     var: &Var,
     second: &Derived,
 ) -> Result<Option<Derived>, AllocError> {
-    if first.is_positive_in(var) && second.is_negative_in(var) {
-        return first.combine(alloc, var, second);
+    if !first.is_positive_in(var) {
+        return Ok(None);
     }
-    Ok(None)
+    if !second.is_negative_in(var) {
+        return Ok(None);
+    }
+    first.combine(alloc, var, second)
 }
 
 /// Writes what a row without terms says.
