@@ -1,0 +1,10 @@
+pub mod RoundLemmas
+pub mod RouteBoundLemmas
+pub mod RunBoundLemmas
+pub mod SpotLemmas
+pub mod TurnCountLemmas
+pub mod UseLemmas
+pub mod VisitCostLemmas
+pub mod VisitNumberLemmas
+pub mod WalkLemmas
+pub mod WayCostLemmas

@@ -1,0 +1,4 @@
+pub mod Analyses
+pub mod Functions
+pub mod Turns
+pub mod Visits
