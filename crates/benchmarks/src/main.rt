@@ -9,6 +9,9 @@
 //! benchmarks cache newest|other|miss SETS WAYS TIMES
 //! benchmarks run bare|probes TURNS
 //! benchmarks loops ladder|nests|tangle BLOCKS TIMES
+//! benchmarks graph FILE TIMES
+//! benchmarks uses straight|copies|nests POINTS WAYS TIMES
+//! benchmarks formulas tree|value|simplify|none shared|different LEAVES TIMES
 //! ```
 //!
 //! Without words it does what the lines of standard input say, each such words, and prints each line with its result.
@@ -18,11 +21,14 @@
 mod cache;
 mod decode;
 mod entails;
+mod formulas;
+mod graphs;
 mod image;
 mod multisets;
 mod nests;
 mod rows;
 mod runs;
+mod uses;
 mod words;
 
 use crate::words::word;
@@ -41,7 +47,12 @@ fn done(rt: HostRuntime, words: &[String]) -> anyhow::Result<String> {
         "cache" => cache::done(alloc, words),
         "run" => runs::done(alloc, words),
         "loops" => nests::done(alloc, words),
-        _ => bail!("usage: benchmarks multisets|rows|entails|decode|image|cache|run|loops WORDS"),
+        "graph" => graphs::done(rt, words),
+        "uses" => uses::done(alloc, words),
+        "formulas" => formulas::done(alloc, words),
+        _ => bail!(
+            "usage: benchmarks multisets|rows|entails|decode|image|cache|run|loops|graph|uses|formulas WORDS"
+        ),
     }
 }
 
