@@ -8,7 +8,7 @@ use Rattle.std.proofs.Math.Numerals.{add-one}
 use Rattle.control_flow.specs.Routes.{Place, Way}
 use Rattle.control_flow.specs.Routes.Place.{At, Exit}
 use Rattle.fact_lattice.specs.Cells.{AbstractState, IsRealized, Within, state_of}
-use Rattle.fact_lattice.specs.Flows.{AreRealized, Flow, HasCoveredFacts, IsClosedAt, IsLostAt, IsSolved, is_placed, step_at, way_to}
+use Rattle.fact_lattice.specs.Flows.{AreRealized, Flow, HasCoveredFacts, IsClosedAt, IsLostAt, IsRegular, IsSolved, is_placed, step_at, way_to}
 use Rattle.fact_lattice.specs.Searches.{Grows, IfAt, IsGone, IsSolving, IsTaken, Merged, MergedBy, Passed, adds, first_map, merged}
 use Rattle.fact_lattice.proofs.CoverLemmas.{within_itself}
 use Rattle.fact_lattice.proofs.JoinLemmas.{start_real, start_covers}
@@ -46,9 +46,10 @@ some_after a b g x e = some_after_at (a x) (b x) (g x) e
 
 -- ---- one merge
 
-pub nothing_passed : (flow : Flow) (p : ℕ) (map : ℕ → Option AbstractState) (was : ℕ → Bool) → AreRealized flow map → Passed flow p 0 map map was was
-nothing_passed flow p map was real =
+pub nothing_passed : (flow : Flow) (p : ℕ) (map : ℕ → Option AbstractState) (was : ℕ → Bool) → IsRegular flow → AreRealized flow map → Passed flow p 0 map map was was
+nothing_passed flow p map was regular real =
     record {
+      regular = regular;
       real = real;
       waiting = λ x e. (e, refl);
       visited = λ x e. inl e;
@@ -79,6 +80,7 @@ module _ (flow : Flow) (p i : ℕ) (map now : ℕ → Option AbstractState) (was
   unchanged_passes : (new : ℕ → Option AbstractState) (then' : ℕ → Bool) → Passed flow p i map now was waits → Merged flow p i now new None → (new ≡ now) → ((x : ℕ) → then' x ≡ waits x) → Passed flow p (suc i) map new was then'
   unchanged_passes new then' s h same v =
       subst (λ (f : ℕ → Option AbstractState). Passed flow p (suc i) map f was then') (sym same) (record {
+        regular = s.regular;
         real = s.real;
         waiting = λ x e. s.waiting x (sym (v x) ∙ e);
         visited = λ x e. s.visited x (sym (v x) ∙ e);
@@ -102,8 +104,9 @@ module _ (flow : Flow) (p i : ℕ) (map now : ℕ → Option AbstractState) (was
       let next = merged flow.stack q t now in
       let along : w ≡ way_to w.done q = λ j. record { done = w.done; to = to j } in
       let grows : Grows now next = merged_grows flow.stack q t now in
-      let r = next_real flow p w.done q m (if_some (now p) (λ n. IsRealized flow.stack (HasCoveredFacts flow p n) n) m at (s.real p)) placed (contains_got (flow.ways p) i (way_to w.done q) lt (got ∙ ap Some along)) in
+      let r = next_real flow s.regular p w.done q m (if_some (now p) (λ n. IsRealized flow.stack (HasCoveredFacts flow p n) n) m at (s.real p)) placed (contains_got (flow.ways p) i (way_to w.done q) lt (got ∙ ap Some along)) in
       subst (λ (f : ℕ → Option AbstractState). Passed flow p (suc i) map f was then') (sym is) (record {
+        regular = s.regular;
         real = merged_real flow q t now s.real r;
         waiting = λ x e.
             let a = adds_false q x waits (sym (v x) ∙ e) in
@@ -152,9 +155,10 @@ module _ (flow : Flow) (p i : ℕ) (map now : ℕ → Option AbstractState) (was
 
 -- ---- one point
 
-pub solving_start : (flow : Flow) (waits : ℕ → Bool) → ((x : ℕ) → waits x ≡ (if x == flow.start then true else false)) → IsSolving flow (first_map flow) waits
-solving_start flow waits v =
+pub solving_start : (flow : Flow) → IsRegular flow → (waits : ℕ → Bool) → ((x : ℕ) → waits x ≡ (if x == flow.start then true else false)) → IsSolving flow (first_map flow) waits
+solving_start flow regular waits v =
     record {
+      regular = regular;
       starts = subst (λ o. IsSomeAnd o (Within (state_of flow.first))) (sym (there flow.start refl)) (within_itself (state_of flow.first));
       real = λ x.
           elim (cases_eq x flow.start) as (λ _. IfSome (first_map flow x) (λ m. IsRealized flow.stack (HasCoveredFacts flow x m) m)) [
@@ -202,6 +206,7 @@ pub solving_next : (flow : Flow) (p : ℕ) (map new : ℕ → Option AbstractSta
     → IsSolving flow new waits
 solving_next flow p map new was mid waits s t g placed =
     record {
+      regular = g.regular;
       starts = grown (state_of flow.first) (map flow.start) (new flow.start) s.starts (g.grows flow.start);
       real = g.real;
       closed = λ x e.
@@ -229,7 +234,7 @@ solving_next flow p map new was mid waits s t g placed =
     }
 
 pub solving_end : (flow : Flow) (map : ℕ → Option AbstractState) (waits : ℕ → Bool) → IsSolving flow map waits → ((x : ℕ) → waits x ≡ false) → IsSolved flow map
-solving_end flow map waits s none = record { starts = s.starts; real = s.real; closed = λ x. s.closed x (none x) }
+solving_end flow map waits s none = record { regular = s.regular; starts = s.starts; real = s.real; closed = λ x. s.closed x (none x) }
 
 -- where a point can't be passed it is lost
 pub lost_after : (flow all : Flow) → all ≡ flow → (p many : ℕ) (map now : ℕ → Option AbstractState) (was waits : ℕ → Bool) → Passed flow p many map now was waits → is_some (map p) ≡ true
@@ -246,11 +251,11 @@ placed_after flow all same p many map now was waits s b placed ready e =
 
 -- ---- the loop's answers
 
-pub solving_begins : (flow : Flow) (start : ℕ) (map : ℕ → Option AbstractState) (none waits : ℕ → Bool) → flow.start ≡ start → map ≡ first_map flow → ((x : ℕ) → none x ≡ false)
+pub solving_begins : (flow : Flow) → IsRegular flow → (start : ℕ) (map : ℕ → Option AbstractState) (none waits : ℕ → Bool) → flow.start ≡ start → map ≡ first_map flow → ((x : ℕ) → none x ≡ false)
     → ((x : ℕ) → waits x ≡ adds (Some start) none x) → IsSolving flow map waits
-solving_begins flow start map none waits is first empty v =
+solving_begins flow regular start map none waits is first empty v =
     subst (λ (f : ℕ → Option AbstractState). IsSolving flow f waits) (sym first)
-    (solving_start flow waits (λ x. v x ∙ (ap (λ b. if x == start then true else b) (empty x) ∙ ap (λ y. if x == y then true else false) (sym is))))
+    (solving_start flow regular waits (λ x. v x ∙ (ap (λ b. if x == start then true else b) (empty x) ∙ ap (λ y. if x == y then true else false) (sym is))))
 
 pub real_again : (flow all : Flow) → all ≡ flow → (map : ℕ → Option AbstractState) (waits : ℕ → Bool) → IsSolving flow map waits → AreRealized all map
 real_again flow all same map waits s = subst (λ (f : Flow). AreRealized f map) (sym same) s.real

@@ -8,7 +8,7 @@ use Rattle.path_facts.specs.Facts.{Fact, Facts, Location, Source, fact_from, off
 use Rattle.path_facts.specs.Facts.Location.{Register}
 use Rattle.fact_lattice.specs.declared.cells.Range.{Range}
 use Rattle.fact_lattice.specs.Cells.{AbstractState, Covers, Given, IsRealized, Lies, Within, after, cell_of, joined, known_in, one_offset, state_of}
-use Rattle.fact_lattice.specs.Flows.{AreRealized, Flow, HasCoveredFacts, HasFacts, IsClosedAt, IsHistoryIn, IsLostAt, IsOverAt, IsSolved, IsUnprovedAt, facts_in, is_placed, step_at, way_to}
+use Rattle.fact_lattice.specs.Flows.{AreRealized, Flow, HasCoveredFacts, HasFacts, IsClosedAt, IsHistoryIn, IsLostAt, IsOverAt, IsRegular, IsSolved, IsUnprovedAt, facts_in, is_placed, step_at, way_to}
 use Rattle.fact_lattice.specs.Searches.{Grows, joined_at, merged}
 use Rattle.fact_lattice.proofs.CoverLemmas.{covers_step, within_left, within_right, within_itself, within_trans, within_covers}
 use Rattle.fact_lattice.proofs.RealizedLemmas.{real_step, ends_map, someone}
@@ -44,16 +44,16 @@ pub offset_covered : (m : AbstractState) (f : Facts) → is_some (one_offset m) 
 offset_covered m f s c = sym (offset_known (known_in (m.cell (Register 13))) (m.cell (Register 13)) (f.fact (Register 13)) refl s (c.facts (Register 13)))
 
 -- what is covered has the sources that the merged state has
-pub same_step : (flow : Flow) (p : ℕ) (d : Bool) (m : AbstractState) (f : Facts) → is_placed flow p m ≡ true → Covers m f → flow.step p d (one_offset m) ≡ flow.step p d (offset_of f)
-same_step flow p d m f e c =
+pub same_step : (flow : Flow) → IsRegular flow → (p : ℕ) (d : Bool) (m : AbstractState) (f : Facts) → is_placed flow p m ≡ true → Covers m f → flow.step p d (one_offset m) ≡ flow.step p d (offset_of f)
+same_step flow regular p d m f e c =
     elim (or_cases (not (flow.accesses p)) (is_some (one_offset m)) e) as (λ _. flow.step p d (one_offset m) ≡ flow.step p d (offset_of f)) [
-      | inl a ↦ flow.even p d (one_offset m) (offset_of f) (not-true (flow.accesses p) a)
+      | inl a ↦ regular.even p d (one_offset m) (offset_of f) (not-true (flow.accesses p) a)
       | inr b ↦ ap (flow.step p d) (offset_covered m f b c)
     ]
 
-next_covered : (flow : Flow) (p : ℕ) (d : Bool) (m : AbstractState) (f : Facts) → is_placed flow p m ≡ true → Covers m f → Covers (step_at flow p d m) (after flow.stack (flow.step p d (offset_of f)) f)
-next_covered flow p d m f e c =
-    subst (λ s. Covers (step_at flow p d m) (after flow.stack s f)) (same_step flow p d m f e c) (covers_step flow.stack (flow.step p d (one_offset m)) m f (flow.rises p d (one_offset m)) c)
+next_covered : (flow : Flow) → IsRegular flow → (p : ℕ) (d : Bool) (m : AbstractState) (f : Facts) → is_placed flow p m ≡ true → Covers m f → Covers (step_at flow p d m) (after flow.stack (flow.step p d (offset_of f)) f)
+next_covered flow regular p d m f e c =
+    subst (λ s. Covers (step_at flow p d m) (after flow.stack s f)) (same_step flow regular p d m f e c) (covers_step flow.stack (flow.step p d (one_offset m)) m f (regular.rises p d (one_offset m)) c)
 
 -- ---- each history is covered
 
@@ -67,7 +67,7 @@ closed_covers flow map s [] p e =
 closed_covers flow map s (x ∷ h) p e =
     let b = both_some (map x.point) (λ m. Covers m (facts_in flow h)) (IsClosedAt flow map x.point) (closed_covers flow map s h x.point e.0) (s.closed x.point) in
     let m = b.0 in
-    let t = next_covered flow x.point x.done m (facts_in flow h) b.3.placed b.2 in
+    let t = next_covered flow s.regular x.point x.done m (facts_in flow h) b.3.placed b.2 in
     some_covers (map p) (step_at flow x.point x.done m) (facts_in flow (x ∷ h)) (b.3.ways x.done p e.1) t where
       some_covers : (o : Option AbstractState) (t : AbstractState) (f : Facts) → IsSomeAnd o (Within t) → Covers t f → IsSomeAnd o (λ n. Covers n f)
       some_covers None t f w c = w
@@ -137,18 +137,18 @@ lost_here flow map real p m e l =
 
 -- ---- one merge keeps what is realised
 
-pub next_real : (flow : Flow) (p : ℕ) (d : Bool) (q : ℕ) (m : AbstractState) → IsRealized flow.stack (HasCoveredFacts flow p m) m → is_placed flow p m ≡ true → Contains (flow.ways p) (way_to d q)
+pub next_real : (flow : Flow) → IsRegular flow → (p : ℕ) (d : Bool) (q : ℕ) (m : AbstractState) → IsRealized flow.stack (HasCoveredFacts flow p m) m → is_placed flow p m ≡ true → Contains (flow.ways p) (way_to d q)
     → IsRealized flow.stack (HasCoveredFacts flow q (step_at flow p d m)) (step_at flow p d m)
-next_real flow p d q m r placed c =
+next_real flow regular p d q m r placed c =
     real_step flow.stack (flow.step p d (one_offset m)) (HasCoveredFacts flow p m) (HasCoveredFacts flow q (step_at flow p d m)) m r
     (λ f u. u.1)
     (λ f t. (
       (
         record { point = p; done = d } ∷ t.0.0,
         (t.0.1, c),
-        subst (λ (g : Facts). after flow.stack (flow.step p d (offset_of g)) g ≡ after flow.stack (flow.step p d (one_offset m)) f) (sym t.0.2) (ap (λ s. after flow.stack s f) (sym (same_step flow p d m f placed t.1))),
+        subst (λ (g : Facts). after flow.stack (flow.step p d (offset_of g)) g ≡ after flow.stack (flow.step p d (one_offset m)) f) (sym t.0.2) (ap (λ s. after flow.stack s f) (sym (same_step flow regular p d m f placed t.1))),
       ),
-      covers_step flow.stack (flow.step p d (one_offset m)) m f (flow.rises p d (one_offset m)) t.1,
+      covers_step flow.stack (flow.step p d (one_offset m)) m f (regular.rises p d (one_offset m)) t.1,
     ))
 
 joined_real : (flow : Flow) (q : ℕ) (o : Option AbstractState) (t : AbstractState) → IfSome o (λ n. IsRealized flow.stack (HasCoveredFacts flow q n) n) → IsRealized flow.stack (HasCoveredFacts flow q t) t

@@ -7,8 +7,7 @@ use Rattle.path_facts.specs.Facts.{Fact, Facts, Source, fact_from, offset_of}
 use Rattle.fact_lattice.specs.Cells.{AbstractState, Covers, IsRealized, Step, Within, after, one_offset, state_of}
 use Rattle.fact_lattice.specs.Cells.{transferred}
 
--- Points with the ways between them, and what the instruction at each does where it is done or skipped, by r13's offset.
--- The offset doesn't matter where the instruction doesn't access the stack by r13, and no mark goes for being set.
+-- points with the ways between them, and what the instruction at each does where it is done or skipped, by r13's offset
 pub record Flow : Type 0 where
   pub stack : ℕ
   pub start : ℕ
@@ -16,9 +15,13 @@ pub record Flow : Type 0 where
   pub ways : ℕ → List (Way ℕ)
   pub step : ℕ → Bool → Option ℤ → Step
   pub accesses : ℕ → Bool
-  pub even : (p : ℕ) (d : Bool) (o q : Option ℤ) → accesses p ≡ false → step p d o ≡ step p d q
-  pub rises : (p : ℕ) (d : Bool) (o : Option ℤ) (k : ℕ) → (step p d o).mark k false ≡ true
-      → (step p d o).mark k true ≡ true
+
+-- The offset doesn't matter where the instruction doesn't access the stack by r13, and a mark that is there takes none
+-- away.
+pub record IsRegular (flow : Flow) : Type 0 where
+  pub even : (p : ℕ) (d : Bool) (o q : Option ℤ) → flow.accesses p ≡ false → flow.step p d o ≡ flow.step p d q
+  pub rises : (p : ℕ) (d : Bool) (o : Option ℤ) (k : ℕ) → (flow.step p d o).mark k false ≡ true
+      → (flow.step p d o).mark k true ≡ true
 
 abbrev pub IsHistoryIn : Flow → List (Taken ℕ) → ℕ → Type 0
 IsHistoryIn flow h p = IsHistory flow.ways flow.start h p
@@ -83,6 +86,7 @@ pub record IsClosedAt (flow : Flow) (map : ℕ → Option AbstractState) (p : �
 
 -- a fixed point: nothing changes any more
 pub record IsSolved (flow : Flow) (map : ℕ → Option AbstractState) : Type 0 where
+  pub regular : IsRegular flow
   pub starts : IsSomeAnd (map flow.start) (Within (state_of flow.first))
   pub real : AreRealized flow map
   pub closed : (p : ℕ) → IfSome (map p) (IsClosedAt flow map p)

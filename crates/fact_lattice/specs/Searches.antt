@@ -6,7 +6,7 @@ use Rattle.control_flow.specs.Routes.Place.{At, Exit}
 use Rattle.fact_lattice.specs.declared.solving.Stop.{Stop}
 use Rattle.fact_lattice.specs.declared.solving.Stop.TheVariants as stop
 use Rattle.fact_lattice.specs.Cells.{AbstractState, Within, joined, state_of}
-use Rattle.fact_lattice.specs.Flows.{AreRealized, Flow, IsClosedAt, IsLostAt, step_at}
+use Rattle.fact_lattice.specs.Flows.{AreRealized, Flow, IsClosedAt, IsLostAt, IsRegular, step_at}
 
 -- where a way leads to a point it has the property
 abbrev pub IfAt : Place ℕ → (ℕ → Type 0) → Type 0
@@ -45,6 +45,7 @@ IsGone flow p j map new =
 
 -- the first ways of p are gone, and the points that changed since wait beside those that did
 pub record Passed (flow : Flow) (p n : ℕ) (map new : ℕ → Option AbstractState) (was waits : ℕ → Bool) : Type 0 where
+  pub regular : IsRegular flow
   pub real : AreRealized flow new
   pub waiting : (x : ℕ) → waits x ≡ false → (was x ≡ false) × (new x ≡ map x)
   pub visited : (x : ℕ) → waits x ≡ true → (was x ≡ true) ⊎ (is_some (new x) ≡ true)
@@ -53,6 +54,7 @@ pub record Passed (flow : Flow) (p n : ℕ) (map new : ℕ → Option AbstractSt
 
 -- all that doesn't wait is closed
 pub record IsSolving (flow : Flow) (map : ℕ → Option AbstractState) (waits : ℕ → Bool) : Type 0 where
+  pub regular : IsRegular flow
   pub starts : IsSomeAnd (map flow.start) (Within (state_of flow.first))
   pub real : AreRealized flow map
   pub closed : (x : ℕ) → waits x ≡ false → IfSome (map x) (IsClosedAt flow map x)

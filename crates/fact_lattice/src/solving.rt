@@ -5,7 +5,7 @@ ghost use Rattle.std.specs.Ordering.{nat_cmp};
 ghost use Rattle.std.specs.BTreeSet as tree;
 ghost use Rattle.std.specs.BTreeSet.{btree_set_len};
 ghost use Rattle.fact_lattice.specs.Cells.{AbstractState};
-ghost use Rattle.fact_lattice.specs.Flows.{AreRealized, Flow, IsSolved, is_placed};
+ghost use Rattle.fact_lattice.specs.Flows.{AreRealized, Flow, IsRegular, IsSolved, is_placed};
 ghost use Rattle.fact_lattice.specs.Searches.{IsStopAt, Merged, Passed, first_map};
 
 use crate::waiting::{put, take};
@@ -57,6 +57,7 @@ pub trait Merging {
 /// Merges what is known after a point into what is known where its ways lead.
 pub fn pass<M: Merging>(states: &mut M, waiting: &mut BTreeSet<u32>, point: u32) -> Result<(), Stop>
     requires sound { M.sound states.old }
+    requires regular { IsRegular (M.flow states.old) }
     requires real { AreRealized (M.flow states.old) (M.map states.old) }
     requires visited { is_some (M.map states.old point) ≡ true }
     ensures sound { OnOk result (M.sound states.new) }
@@ -85,6 +86,7 @@ pub fn pass<M: Merging>(states: &mut M, waiting: &mut BTreeSet<u32>, point: u32)
 /// Merges until nothing changes any more.
 pub fn solve<M: Merging>(alloc: Global, states: &mut M, start: u32) -> Result<(), Stop>
     requires sound { M.sound states.old }
+    requires regular { IsRegular (M.flow states.old) }
     requires begins { (M.flow states.old).start ≡ start }
     requires first { M.map states.old ≡ first_map (M.flow states.old) }
     ensures sound { OnOk result (M.sound states.new) }

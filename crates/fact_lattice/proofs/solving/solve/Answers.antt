@@ -10,7 +10,7 @@ loop-point-init g c =
     record {
       sound = search rules;
       same = search rules;
-      solving = solving_begins (M.flow c.args.states.now) c.args.start (M.map c.args.states.now) (tree.contains nat_cmp c.new-waiting.result) (tree.contains nat_cmp c.put.new.waiting) c.requires.begins c.requires.first (search rules) (search rules);
+      solving = solving_begins (M.flow c.args.states.now) c.requires.regular c.args.start (M.map c.args.states.now) (tree.contains nat_cmp c.new-waiting.result) (tree.contains nat_cmp c.put.new.waiting) c.requires.begins c.requires.first (search rules) (search rules);
     }
 
 pub loop-point-preserved : goal.loop-point-preserved
