@@ -1,0 +1,8 @@
+//! X
+#![tactic(auto)]
+
+mod lookup;
+mod tables;
+
+pub use lookup::{find, put};
+pub use tables::{PointFacts, WordFacts};
