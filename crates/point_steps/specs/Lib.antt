@@ -1,0 +1,2 @@
+-- X
+pub mod Meanings
