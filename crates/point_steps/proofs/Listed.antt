@@ -1,22 +1,24 @@
 -- The registers of a list, one after another.
-use Rattle.std.proofs.Common.{◌≡◌, ℕ, ◌+◌, ◌-◌, ◌<◌, ◌≤◌, ◌==◌, ◌&&◌, Bool, true, false, cond, if◌then◌else◌, Option, List, [], ◌∷◌, refl, sym, ap, ◌∙◌, suc, arith}
+use Rattle.std.proofs.Common.{◌≡◌, ℕ, ◌+◌, ◌-◌, ◌<◌, ◌≤◌, ◌==◌, ◌&&◌, Bool, true, false, cond, if◌then◌else◌}
+use Rattle.std.proofs.Common.{Option, List, [], ◌∷◌, length, refl, sym, ap, ◌∙◌, zero, suc, arith}
 use Rattle.arm_isa.specs.Writes.{is_listed}
 use Rattle.arm_machine.specs.Access.{is_saved}
 use Rattle.arm_machine.specs.Blocks.{listed_from, registers_of}
 use Rattle.path_facts.specs.Facts.{Source}
-use Rattle.path_facts.specs.Sources.{load_source, loads_source, mark_after_store, mark_after_stores, next_offset, stores_source, word_store_source}
+use Rattle.path_facts.specs.Sources.{load_source, loads_source, mark_after_store, mark_after_stores, next_offset}
+use Rattle.path_facts.specs.Sources.{stores_source, word_store_source}
 
 -- those from a register on
 unfoldable pub rest_of : ℕ → ℕ → List ℕ
 rest_of list r = listed_from list r (16 - r)
 
-pub whole_list : (list : ℕ) → rest_of list 0 ≡ registers_of list
+pub whole : (list : ℕ) → rest_of list 0 ≡ registers_of list
 unfolding registers_of rest_of
-whole_list list = refl
+whole list = refl
 
-pub no_more : (list r : ℕ) → 16 ≤ r → rest_of list r ≡ []
+pub at_end : (list r : ℕ) → 16 ≤ r → rest_of list r ≡ []
 unfolding rest_of
-no_more list r over = let none : 16 - r ≡ 0 = omega arith in ap (listed_from list r) none
+at_end list r over = let none : 16 - r ≡ 0 = omega arith in ap (listed_from list r) none
 
 next_of : (list r : ℕ) → r < 16 → rest_of list r ≡ cond (is_listed list r) (r ∷ rest_of list (r + 1)) (rest_of list (r + 1))
 unfolding rest_of
@@ -78,3 +80,28 @@ pub marks_skip : (at : Option ℕ) (list r word : ℕ) (saves before all : Bool)
     → mark_after_stores at (rest_of list (r + 1)) word saves before ≡ all
 marks_skip at list r word saves before all small off so =
     sym (ap (λ rs. mark_after_stores at rs word saves before) (unlisted list r small off)) ∙ so
+
+-- the number of registers that are left
+pub count_on : (list r n all : ℕ) → r < 16 → is_listed list r ≡ true → n + length (rest_of list r) ≡ all
+    → n + 1 + length (rest_of list (r + 1)) ≡ all
+count_on list r n all small on so =
+    let more : length (rest_of list r) ≡ suc (length (rest_of list (r + 1))) = ap length (listed list r small on) in
+    omega (arith, more, so)
+
+pub count_skip : (list r n all : ℕ) → r < 16 → is_listed list r ≡ false → n + length (rest_of list r) ≡ all
+    → n + length (rest_of list (r + 1)) ≡ all
+count_skip list r n all small off so = ap (λ rs. n + length rs) (sym (unlisted list r small off)) ∙ so
+
+-- there are at most sixteen
+pub few_from : (list n r : ℕ) → length (listed_from list r n) ≤ n
+few_from list zero r = omega arith
+few_from list (suc n) r = by_test (is_listed list r) (few_from list n (r + 1))
+  where
+    by_test : (b : Bool) → length (listed_from list (r + 1) n) ≤ n
+        → length (cond b (r ∷ listed_from list (r + 1) n) (listed_from list (r + 1) n)) ≤ suc n
+    by_test true few = omega (arith, few)
+    by_test false few = omega (arith, few)
+
+pub few_registers : (list : ℕ) → length (registers_of list) ≤ 16
+unfolding registers_of
+few_registers list = few_from list 16 0

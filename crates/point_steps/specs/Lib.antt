@@ -1,2 +1,2 @@
--- X
+pub mod Changes
 pub mod Meanings

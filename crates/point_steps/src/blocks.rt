@@ -45,7 +45,7 @@ fn loaded_once(at: Option<u32>, listed: u8, register: u8, before: Source) -> Sou
 }
 
 /// A register after LDM by r13, with its source without the load.
-#[tactic(auto, using(crate::proofs::Listed::whole_list, crate::proofs::Listed::no_more, crate::proofs::Listed::loads_on, crate::proofs::Listed::loads_skip))]
+#[tactic(auto, using(crate::proofs::Listed::whole, crate::proofs::Listed::at_end, crate::proofs::Listed::loads_skip))]
 pub(crate) fn loads_source(lowest: Option<u32>, list: u16, register: u8, before: Source) -> Source
     ensures { source_meant result ≡ loads_source lowest (registers_of list) register (source_meant before) }
 {
@@ -62,7 +62,7 @@ pub(crate) fn loads_source(lowest: Option<u32>, list: u16, register: u8, before:
 }
 
 /// A stack word after STM by r13, with its source without the store.
-#[tactic(auto, using(crate::proofs::Listed::whole_list, crate::proofs::Listed::no_more, crate::proofs::Listed::stores_on, crate::proofs::Listed::stores_skip))]
+#[tactic(auto, using(crate::proofs::Listed::whole, crate::proofs::Listed::at_end, crate::proofs::Listed::stores_skip))]
 pub(crate) fn stores_source(lowest: Option<u32>, list: u16, word: u32, before: Source) -> Source
     ensures { source_meant result ≡ stores_source lowest (registers_of list) word (source_meant before) }
 {
@@ -79,7 +79,7 @@ pub(crate) fn stores_source(lowest: Option<u32>, list: u16, word: u32, before: S
 }
 
 /// Whether a stack word is marked after STM by r13.
-#[tactic(auto, using(crate::proofs::Listed::whole_list, crate::proofs::Listed::no_more, crate::proofs::Listed::marks_on, crate::proofs::Listed::marks_skip))]
+#[tactic(auto, using(crate::proofs::Listed::whole, crate::proofs::Listed::at_end, crate::proofs::Listed::marks_skip))]
 pub(crate) fn mark_after_stores(
     lowest: Option<u32>,
     list: u16,

@@ -15,7 +15,7 @@
 #![tactic(auto)]
 
 mod blocks;
-//X mod changes;
+mod changes;
 mod laws;
 mod offsets;
 mod registers;
@@ -24,7 +24,7 @@ mod stack_use;
 mod table;
 mod words;
 
-//X pub use changes::{StackChange, stack_change};
+pub use changes::{StackChange, stack_change};
 pub use laws::skipped_instructions_leave_locations;
 pub use source::{Location, Source};
 pub use stack_use::{accesses_by_sp, lowest_byte};

@@ -3,7 +3,8 @@
 ghost use Rattle.std.specs.Prelude.{◌≡◌, ◌+◌, ◌*◌, ◌%◌, ◌^◌};
 ghost use Rattle.arm_isa.specs.Writes.{is_after};
 ghost use Rattle.arm_machine.specs.Transfers.{half_transfer, word_transfer};
-ghost use Rattle.path_facts.specs.Sources.{access_offset, based_offset, block_offset, indexed, is_at_word, is_tracked, load_source, moved, next_offset, residue, touches, word_at_offset};
+ghost use Rattle.path_facts.specs.Sources.{access_offset, based_offset, block_offset, indexed, is_at_word, is_tracked};
+ghost use Rattle.path_facts.specs.Sources.{load_source, moved, next_offset, residue, touches, word_at_offset};
 ghost use Rattle.point_steps.specs.Meanings.{source_meant};
 
 use crate::source::{Location, Source};

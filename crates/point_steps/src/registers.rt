@@ -1,7 +1,8 @@
 //! Registers that are computed, written back or loaded from the image.
 
 ghost use Rattle.std.specs.Prelude.{◌≡◌, ◌≤ℤ◌, pos, neg_ℤ, ◌^◌};
-ghost use Rattle.path_facts.specs.Sources.{base_source, block_base_source, compute_source, constant_source, literal_source, moved_source, register_source, shifted_source};
+ghost use Rattle.path_facts.specs.Sources.{base_source, block_base_source, compute_source, constant_source};
+ghost use Rattle.path_facts.specs.Sources.{literal_source, moved_source, register_source, shifted_source};
 ghost use Rattle.point_steps.specs.Meanings.{source_meant};
 
 use crate::source::{Location, Source};

@@ -7,7 +7,8 @@ ghost use Rattle.arm_isa.specs.Writes.{is_one_word};
 ghost use Rattle.arm_machine.specs.Transfers.{is_before_back, is_push, word_transfer};
 ghost use Rattle.path_facts.specs.Facts.Location.{Register, StackWord};
 ghost use Rattle.path_facts.specs.Histories.{literal_of};
-ghost use Rattle.path_facts.specs.Sources.{indexed, loaded_source, mark_after, mark_of, return_source, source_of, stack_source, written_source};
+ghost use Rattle.path_facts.specs.Sources.{indexed, loaded_source, mark_after, mark_of, return_source, source_of};
+ghost use Rattle.path_facts.specs.Sources.{stack_source, written_source};
 ghost use Rattle.point_steps.specs.Meanings.{source_meant};
 
 use crate::blocks::{is_push_block, is_saved, loads_source, mark_after_stores, stores_source};
@@ -53,7 +54,8 @@ fn word_written(
 
 /// A register that a load or store of a halfword writes.
 fn half_written(this: HalfTransfer, register: u8) -> Source
-    ensures { (a : ℕ) (literal : Option ℕ) (offset : Option ℤ) → source_meant result ≡ written_source a literal offset (op.Half this) register }
+    ensures { (a : ℕ) (literal : Option ℕ) (offset : Option ℤ)
+        → source_meant result ≡ written_source a literal offset (op.Half this) register }
 {
     if this.load && register == this.rd {
         Source::Nothing
@@ -64,7 +66,8 @@ fn half_written(this: HalfTransfer, register: u8) -> Source
 
 /// A register that a load or store of several registers writes.
 fn block_written(offset: Option<i32>, this: BlockTransfer, register: u8) -> Source
-    ensures { (a : ℕ) (literal : Option ℕ) → source_meant result ≡ written_source a literal offset (op.Block this) register }
+    ensures { (a : ℕ) (literal : Option ℕ)
+        → source_meant result ≡ written_source a literal offset (op.Block this) register }
 {
     let base = block_base_source(this, register);
     if this.load {
@@ -105,7 +108,8 @@ pub fn register_source(
     insn: &Insn,
     register: u8,
 ) -> Source
-    ensures { (stack : ℕ) → source_meant result ≡ source_of stack address literal offset insn.now.op (Register register) }
+    ensures { (stack : ℕ)
+        → source_meant result ≡ source_of stack address literal offset insn.now.op (Register register) }
 {
     if register < 15 {
         if may_write(insn, register) {
@@ -176,7 +180,8 @@ fn stack_source(offset: Option<i32>, op: Op, word: u32) -> Source
 /// The source of a stack word after an instruction, where the stack has this number of bytes. `offset` is how far r13
 /// is from its start before it. Nothing is said of words outside the stack.
 pub fn word_source(stack: u32, offset: Option<i32>, insn: &Insn, word: u32) -> Source
-    ensures { (a : ℕ) (literal : Option ℕ) → source_meant result ≡ source_of stack a literal offset insn.now.op (StackWord word) }
+    ensures { (a : ℕ) (literal : Option ℕ)
+        → source_meant result ≡ source_of stack a literal offset insn.now.op (StackWord word) }
 {
     if is_tracked(stack, word) {
         stack_source(offset, insn.op, word)
@@ -304,7 +309,8 @@ pub fn literal_of(image: &Image, address: u32, insn: &Insn) -> Option<u32>
 
 /// The word of the image that a load by r15 at an address reads.
 fn literal_at(image: &Image, address: u32, this: WordTransfer) -> Option<u32>
-    ensures { result ≡ option_and_then (constant_at image.now) (indexed this.index this.up ((address + 8) % 2 ^ 32) this.offset) }
+    ensures { result ≡ option_and_then (constant_at image.now)
+        (indexed this.index this.up ((address + 8) % 2 ^ 32) this.offset) }
 {
     match indexed(this.index, this.up, address.wrapping_add(8), this.offset) {
         None => None,
