@@ -14,7 +14,7 @@ use crate::offsets::{block_access, half_access, word_access};
 use arm_isa::{BlockTransfer, HalfTransfer, Insn, Op, WordTransfer};
 
 /// Which stack words an instruction changes.
-#[derive(Clone, Copy, Debug, PartialEq, Eq)]
+#[derive(Clone, Copy, Debug, PartialEq, Eq, Drop)]
 pub enum StackChange {
     /// No word.
     Nothing,

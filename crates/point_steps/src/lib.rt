@@ -25,7 +25,9 @@ mod table;
 mod words;
 
 pub use changes::{StackChange, stack_change};
-pub use laws::skipped_instructions_leave_locations;
+pub use laws::{
+    marks_rise, offsets_matter_to_accesses_by_sp, skipped_instructions_leave_locations,
+};
 pub use source::{Location, Source};
 pub use stack_use::{accesses_by_sp, lowest_byte};
 pub use table::{literal_of, mark_after, register_source, returned_source, word_source};

@@ -1,7 +1,7 @@
 //! What the value of a location after an instruction is, by the state before it.
 
 /// A place for a value.
-#[derive(Clone, Copy, Debug, PartialEq, Eq)]
+#[derive(Clone, Copy, Debug, PartialEq, Eq, Drop)]
 pub enum Location {
     /// A register.
     Register(u8),
@@ -10,7 +10,7 @@ pub enum Location {
 }
 
 /// What a location's value is after a done instruction.
-#[derive(Clone, Copy, Debug, PartialEq, Eq)]
+#[derive(Clone, Copy, Debug, PartialEq, Eq, Drop)]
 pub enum Source {
     /// Nothing is said of it.
     Nothing,
