@@ -58,6 +58,27 @@ fn join_words(
     Ok(changed)
 }
 
+/// The same of the words of two tables.
+fn join_word_lists(
+    stack: u32,
+    left: &Vec<WordFacts>,
+    right: &Vec<WordFacts>,
+    out: &mut Vec<WordFacts>,
+) -> Result<bool, AllocError>
+    requires left { RisesTo 0 (2 ^ 32) left.now.items }
+    requires right { RisesTo 0 (2 ^ 32) right.now.items }
+    requires empty { out.old.items ≡ [] }
+    ensures rising { OnOk result (RisesTo 0 (2 ^ 32) out.new.items) }
+    ensures joined { OnOk result ((k : ℕ) → entry_in out.new.items k
+        ≡ joined_entry stack (entry_in left.now.items k) (entry_in right.now.items k)) }
+    ensures same { IfOk result (λ changed. changed ≡ false → (k : ℕ)
+        → joined_entry stack (entry_in left.now.items k) (entry_in right.now.items k) ≡ entry_in left.now.items k) }
+    ensures differs { IfOk result (λ changed. changed ≡ true → (k : ℕ)
+        × (joined_entry stack (entry_in left.now.items k) (entry_in right.now.items k) ≢ entry_in left.now.items k)) }
+{
+    join_words(stack, left.as_slice(), right.as_slice(), out)
+}
+
 /// What two tables of registers say together, and whether this differs from the first.
 fn join_registers(
     stack: u32,
@@ -100,7 +121,7 @@ pub fn join_points(
         ≡ state_of_point old.now)) }
 {
     let mut words = Vec::new(alloc);
-    let other_words = join_words(stack, old.words.as_slice(), new.words.as_slice(), &mut words)?;
+    let other_words = join_word_lists(stack, &old.words, &new.words, &mut words)?;
     let mut registers = old.registers;
     let other_registers = join_registers(stack, &mut registers, &new.registers);
     if other_words | other_registers {
