@@ -1,5 +1,5 @@
 -- Tables of a point that are joined entry by entry.
-use Rattle.std.proofs.Common.{◌≡◌, refl, sym, ap, ◌∙◌, subst, ℕ, zero, suc, ◌+◌, ◌<◌, ◌≤◌, ◌⊎◌, inl, inr, Bool, true, false, List, [], ◌∷◌, length, set, get_or, drop, arith}
+use Rattle.std.proofs.Common.{◌≡◌, refl, sym, ap, ◌∙◌, subst, ℕ, zero, suc, ◌+◌, ◌<◌, ◌≤◌, ◌-◌, ◌⊎◌, inl, inr, Bool, true, false, List, [], ◌∷◌, length, set, get_or, drop, arith}
 use Rattle.std.specs.Prelude.{◌≢◌, ◌&&◌, ◌||◌, ◌^◌, not, Option, Some, None}
 use Rattle.std.specs.Ordering.{int_eq}
 use Rattle.std.proofs.lemmas.Bool.{and_parts, cases_Bool, cases_eq, false≢true, true≢false, or_parts, or_cases, not-true, not-false}
@@ -51,12 +51,12 @@ same_entry v w a b c = λ j. record { word = a j; cell = b j; kept = c j }
 pub record PartlyJoined (stack : ℕ) (ls rs : List WordFacts) (i : ℕ) (out : List WordFacts) (changed : Bool) : Type 0 where
   pub bound : ℕ
   pub entries : AreEntriesTo (λ k. joined_entry stack (entry_in ls k) (entry_in rs k)) bound out
-  pub rest : RisesTo bound (2 ^ 32) (drop i ls)
+  pub rest : RisesTo bound (2 ^ 32 - 1) (drop i ls)
   pub left_at : (k : ℕ) → bound ≤ k → entry_in ls k ≡ entry_in (drop i ls) k
   pub same : changed ≡ false → (k : ℕ) → k < bound → joined_entry stack (entry_in ls k) (entry_in rs k) ≡ entry_in ls k
   pub differs : changed ≡ true → (k : ℕ) × (joined_entry stack (entry_in ls k) (entry_in rs k) ≢ entry_in ls k)
 
-pub joining_begins : (stack : ℕ) (ls rs out : List WordFacts) → RisesTo 0 (2 ^ 32) ls → out ≡ [] → PartlyJoined stack ls rs 0 out false
+pub joining_begins : (stack : ℕ) (ls rs out : List WordFacts) → RisesTo 0 (2 ^ 32 - 1) ls → out ≡ [] → PartlyJoined stack ls rs 0 out false
 joining_begins stack ls rs out r e = record {
   bound = 0;
   entries =
@@ -69,10 +69,10 @@ joining_begins stack ls rs out r e = record {
 }
 
 -- between the words of the first places and the next one there is none
-between : (stack : ℕ) (ls : List WordFacts) (i b : ℕ) (w : WordFacts) → drop i ls ≡ w ∷ drop (i + 1) ls → RisesTo b (2 ^ 32) (w ∷ drop (i + 1) ls)
+between : (stack : ℕ) (ls : List WordFacts) (i b : ℕ) (w : WordFacts) → drop i ls ≡ w ∷ drop (i + 1) ls → RisesTo b (2 ^ 32 - 1) (w ∷ drop (i + 1) ls)
     → ((k : ℕ) → b ≤ k → entry_in ls k ≡ entry_in (drop i ls) k) → (k : ℕ) → b ≤ k → k < w.word → entry_in ls k ≡ nothing_of k
 between stack ls i b w d r left_at k from below =
-    left_at k from ∙ (ap (λ ws. entry_in ws k) d ∙ none_below w.word (2 ^ 32) (w ∷ drop (i + 1) ls) k (omega arith, r.1) below)
+    left_at k from ∙ (ap (λ ws. entry_in ws k) d ∙ none_below w.word (2 ^ 32 - 1) (w ∷ drop (i + 1) ls) k (omega arith, r.1) below)
 
 pub joining_goes_on : (stack : ℕ) (ls rs : List WordFacts) (i : ℕ) (out : List WordFacts) (changed : Bool) (w n : WordFacts) (same : Bool) (next : List WordFacts)
     → PartlyJoined stack ls rs i out changed → drop i ls ≡ w ∷ drop (i + 1) ls → n ≡ joined_entry stack w (entry_in rs w.word)
@@ -80,7 +80,7 @@ pub joining_goes_on : (stack : ℕ) (ls rs : List WordFacts) (i : ℕ) (out : Li
     → PartlyJoined stack ls rs (i + 1) next (changed || not same)
 joining_goes_on stack ls rs i out changed w n same next s d is yes' no' put =
     let f = λ (k : ℕ). joined_entry stack (entry_in ls k) (entry_in rs k) in
-    let r : RisesTo s.bound (2 ^ 32) (w ∷ drop (i + 1) ls) = subst (RisesTo s.bound (2 ^ 32)) d s.rest in
+    let r : RisesTo s.bound (2 ^ 32 - 1) (w ∷ drop (i + 1) ls) = subst (RisesTo s.bound (2 ^ 32 - 1)) d s.rest in
     let there : entry_in ls w.word ≡ w = s.left_at w.word r.0 ∙ (ap (λ ws. entry_in ws w.word) d ∙ head_found w (drop (i + 1) ls) w.word refl) in
     let named : n.word ≡ w.word = ap (λ x. x.word) is in
     let given : n ≡ f n.word = is ∙ (sym (ap (λ x. joined_entry stack x (entry_in rs w.word)) there) ∙ ap f (sym named)) in
@@ -123,11 +123,11 @@ module _ (stack : ℕ) (ls rs : List WordFacts) (i : ℕ) (out : List WordFacts)
   cases_le : (k b : ℕ) → (k < b) ⊎ (b ≤ k)
   cases_le k b = grind arith
 
-  pub joined_rises : RisesTo 0 (2 ^ 32) out
+  pub joined_rises : RisesTo 0 (2 ^ 32 - 1) out
   joined_rises =
       let f = λ (k : ℕ). joined_entry stack (entry_in ls k) (entry_in rs k) in
-      let b : s.bound ≤ 2 ^ 32 = subst (RisesTo s.bound (2 ^ 32)) e s.rest in
-      (wider f s.bound (2 ^ 32) out s.entries b (λ k from below. ap (λ x. joined_entry stack x (entry_in rs k)) (past k from))).rises
+      let b : s.bound ≤ 2 ^ 32 - 1 = subst (RisesTo s.bound (2 ^ 32 - 1)) e s.rest in
+      (wider f s.bound (2 ^ 32 - 1) out s.entries b (λ k from below. ap (λ x. joined_entry stack x (entry_in rs k)) (past k from))).rises
 
   pub joined_entries : (k : ℕ) → entry_in out k ≡ joined_entry stack (entry_in ls k) (entry_in rs k)
   joined_entries k =
@@ -278,3 +278,6 @@ beq_true true true e = refl
 beq_true true false e = absurd (false≢true e)
 beq_true false true e = absurd (false≢true e)
 beq_true false false e = refl
+
+pub drop_got : {A : Type 0} (xs : List A) (i : ℕ) (x : A) → i < length xs → x ≡ get_or xs i x → drop i xs ≡ x ∷ drop (i + 1) xs
+drop_got xs i x l e = drop_next xs i x l ∙ ap (λ y. y ∷ drop (i + 1) xs) (sym e)

@@ -1,5 +1,5 @@
 -- What all paths say of a point, as a table: the cells of r0 to r14, and the stack words that have a cell or a mark.
-use Rattle.std.specs.Prelude.{◌≡◌, ℕ, suc, ◌≤◌, ◌^◌, ◌==◌, ◌&&◌, ◌||◌, Bool, false, if◌then◌else◌, List, [], ◌∷◌, ◌++◌}
+use Rattle.std.specs.Prelude.{◌≡◌, ℕ, suc, ◌≤◌, ◌-◌, ◌^◌, ◌==◌, ◌&&◌, ◌||◌, Bool, false, if◌then◌else◌, List, [], ◌∷◌, ◌++◌}
 use Rattle.std.specs.Prelude.{Option, None, get_or, is_some, length}
 use Rattle.path_facts.specs.Facts.{Location}
 use Rattle.path_facts.specs.Facts.Location.{Register, StackWord}
@@ -40,7 +40,7 @@ state_of_point t = state_in t.registers t.words.items
 -- a table is in order
 pub record IsTable (t : PointFacts) : Type 0 where
   pub long : length t.registers ≡ 15
-  pub rising : RisesTo 0 (2 ^ 32) t.words.items
+  pub rising : RisesTo 0 (2 ^ 32 - 1) t.words.items
 
 -- what two paths say of a word together
 abbrev pub joined_entry : ℕ → WordFacts → WordFacts → WordFacts

@@ -1,6 +1,6 @@
 //! What several paths say together of one point.
 
-ghost use Rattle.std.specs.Prelude.{◌≡◌, ◌≢◌, ◌≤◌, ◌<◌, ◌^◌, ℕ, Bool, true, false, [], Some, None, length, get_or};
+ghost use Rattle.std.specs.Prelude.{◌≡◌, ◌≢◌, ◌≤◌, ◌<◌, ◌-◌, ◌^◌, ℕ, Bool, true, false, [], Some, None, length, get_or};
 ghost use Rattle.std.specs.Prelude.{IfOk, IfSome, IfNone, OnOk};
 ghost use Rattle.fact_lattice.specs.Cells.{joined, joined_cell};
 ghost use Rattle.copy_facts.specs.Tables.{IsTable, RisesTo, entry_in, joined_entry, state_of_point};
@@ -37,10 +37,10 @@ fn join_words(
     right: &[WordFacts],
     out: &mut Vec<WordFacts>,
 ) -> Result<bool, AllocError>
-    requires left { RisesTo 0 (2 ^ 32) left.now }
-    requires right { RisesTo 0 (2 ^ 32) right.now }
+    requires left { RisesTo 0 (2 ^ 32 - 1) left.now }
+    requires right { RisesTo 0 (2 ^ 32 - 1) right.now }
     requires empty { out.old.items ≡ [] }
-    ensures rising { OnOk result (RisesTo 0 (2 ^ 32) out.new.items) }
+    ensures rising { OnOk result (RisesTo 0 (2 ^ 32 - 1) out.new.items) }
     ensures joined { OnOk result ((k : ℕ) → entry_in out.new.items k
         ≡ joined_entry stack (entry_in left.now k) (entry_in right.now k)) }
     ensures same { IfOk result (λ changed. changed ≡ false → (k : ℕ)
@@ -65,10 +65,10 @@ fn join_word_lists(
     right: &Vec<WordFacts>,
     out: &mut Vec<WordFacts>,
 ) -> Result<bool, AllocError>
-    requires left { RisesTo 0 (2 ^ 32) left.now.items }
-    requires right { RisesTo 0 (2 ^ 32) right.now.items }
+    requires left { RisesTo 0 (2 ^ 32 - 1) left.now.items }
+    requires right { RisesTo 0 (2 ^ 32 - 1) right.now.items }
     requires empty { out.old.items ≡ [] }
-    ensures rising { OnOk result (RisesTo 0 (2 ^ 32) out.new.items) }
+    ensures rising { OnOk result (RisesTo 0 (2 ^ 32 - 1) out.new.items) }
     ensures joined { OnOk result ((k : ℕ) → entry_in out.new.items k
         ≡ joined_entry stack (entry_in left.now.items k) (entry_in right.now.items k)) }
     ensures same { IfOk result (λ changed. changed ≡ false → (k : ℕ)

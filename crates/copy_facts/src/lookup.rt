@@ -1,6 +1,6 @@
 //! Words by their numbers.
 
-ghost use Rattle.std.specs.Prelude.{◌≡◌, ℕ, ◌<◌, ◌≤◌, ◌^◌, Some, length, slice_get, OnOk};
+ghost use Rattle.std.specs.Prelude.{◌≡◌, ℕ, ◌<◌, ◌≤◌, ◌-◌, ◌^◌, Some, length, slice_get, OnOk};
 ghost use Rattle.copy_facts.specs.declared.tables.WordFacts.{WordFacts as WordFactsValue};
 ghost use Rattle.copy_facts.specs.Tables.{RisesTo, entry_in, nothing_of, with_entry};
 
@@ -9,7 +9,7 @@ use std::alloc::AllocError;
 
 /// The place of the first word that isn't below this one.
 fn place_of(words: &[WordFacts], word: u32) -> usize
-    requires { RisesTo 0 (2 ^ 32) words.now }
+    requires { RisesTo 0 (2 ^ 32 - 1) words.now }
     ensures before { (i : ℕ) (w : WordFactsValue) → i < result → slice_get words.now i ≡ Some w → w.word < word }
     ensures after { (i : ℕ) (w : WordFactsValue) → result ≤ i → slice_get words.now i ≡ Some w → word ≤ w.word }
 {
@@ -28,7 +28,7 @@ fn place_of(words: &[WordFacts], word: u32) -> usize
 
 /// What a list says of a word.
 pub fn find(words: &[WordFacts], word: u32) -> WordFacts
-    requires { RisesTo 0 (2 ^ 32) words.now }
+    requires { RisesTo 0 (2 ^ 32 - 1) words.now }
     ensures { result ≡ entry_in words.now word }
 {
     match words.get(place_of(words, word)) {

@@ -1,9 +1,10 @@
 //! What all paths say of one location.
 
-ghost use Rattle.std.specs.Prelude.{◌≡◌, ◌+◌, ◌+ℤ◌, pos, int_le, true, false, IfSome, IfNone};
+ghost use Rattle.std.specs.Prelude.{◌≡◌, ◌+◌, ◌+ℤ◌, ◌*◌, ◌&&◌, pos, neg_ℤ, int_le, nat_le, true, false};
+ghost use Rattle.std.specs.Prelude.{IfSome, IfNone};
 ghost use Rattle.path_facts.specs.Facts.{is_signed_word};
 ghost use Rattle.fact_lattice.specs.Cells.{constant_cell, is_start_sp, joined_cell, may_span, same_origin, shifted_cell};
-ghost use Rattle.fact_lattice.specs.Cells.{same_cell};
+ghost use Rattle.fact_lattice.specs.Cells.{all_above, same_cell};
 
 use path_facts::Origin;
 
@@ -122,6 +123,33 @@ pub fn join(stack: u32, left: Option<Range>, right: Option<Range>) -> Option<Ran
                 }
             }
         },
+    }
+}
+
+/// Whether r13 lies in the stack or at most 64 bytes above it, where it lies between these offsets.
+fn is_near_stack(stack: u32, low: i32, high: i32) -> bool
+    ensures { result ≡ (int_le (neg_ℤ (pos stack)) low && int_le high (pos 64)) }
+{
+    -i64::from(stack) <= i64::from(low) && high <= 64
+}
+
+/// Whether a word of the stack isn't below r13, where r13's offset is no greater than this.
+fn is_word_above(stack: u32, high: i32, word: u32) -> bool
+    ensures { result ≡ (nat_le (4 * word) stack && int_le high (neg_ℤ (pos (4 * word)))) }
+{
+    4 * u64::from(word) <= u64::from(stack) && i64::from(high) <= -(4 * i64::from(word))
+}
+
+/// Whether a word isn't below r13 on any path, by r13's cell.
+pub fn is_above_all(stack: u32, sp: Option<Range>, word: u32) -> bool
+    ensures { result ≡ all_above stack sp word }
+{
+    match sp {
+        None => false,
+        Some(range) => {
+            is_start_sp(range.origin)
+                & (is_near_stack(stack, range.low, range.high) & is_word_above(stack, range.high, word))
+        }
     }
 }
 

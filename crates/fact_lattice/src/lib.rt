@@ -14,6 +14,6 @@ mod laws;
 mod solving;
 mod waiting;
 
-pub use cells::{Range, constant, is_same, is_start_sp, join, same, shift};
+pub use cells::{Range, constant, is_above_all, is_same, is_start_sp, join, same, shift};
 pub use laws::solved_maps_are_exact;
 pub use solving::{Merging, Stop, solve};
