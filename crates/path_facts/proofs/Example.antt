@@ -21,9 +21,10 @@ use Rattle.control_flow.specs.Ways.{fault_at, ways_from}
 use Rattle.control_flow.proofs.WayLemmas.{walk_history}
 use Rattle.arm_machine.specs.Blocks.{registers_of}
 use Rattle.path_facts.specs.Example.{example_image}
-use Rattle.path_facts.specs.Facts.{Fact, Origin}
+use Rattle.path_facts.specs.Facts.{Fact}
+use Rattle.path_facts.specs.declared.origin.Origin.{Origin}
 use Rattle.path_facts.specs.Facts.Location.{Register, StackWord}
-use Rattle.path_facts.specs.Facts.Origin.{Zero, AtStart}
+use Rattle.path_facts.specs.declared.origin.Origin.TheVariants.{Zero, AtStart}
 use Rattle.path_facts.specs.Histories.{IsFollowed, IsHistoryOf, facts_of, returned_fact, wanted_fact}
 use Rattle.path_facts.specs.StackUse.{IsReturnUnproved, IsStackLost, IsStackOver}
 

@@ -8,7 +8,7 @@ use Rattle.arm_cpu.specs.Registers.{signed_of}
 use Rattle.arm_machine.specs.States.{State}
 use Rattle.path_facts.specs.Facts.{Fact, Facts, IsCongruent, IsTrueOf, Location, Says, Source, fact_from, is_signed_word, origin_value}
 use Rattle.path_facts.specs.Facts.{plus, value_in}
-use Rattle.path_facts.specs.Facts.Origin.{Zero}
+use Rattle.path_facts.specs.declared.origin.Origin.TheVariants.{Zero}
 use Rattle.path_facts.specs.Facts.Location.{Register, StackWord}
 use Rattle.path_facts.specs.Facts.Source.{Nothing, Constant, Sum, Copy, IfMarked}
 

@@ -1,28 +1,21 @@
 -- What a return brings to pc has a source like a register, and a return whose fact is the wanted one goes where it must.
-use Rattle.std.proofs.Common.{◌≡◌, ℕ, ℤ, ◌+◌, ◌*◌, ◌%◌, ◌^◌, ◌<◌, ◌≤◌, ◌&&◌, not, Bool, true, false, cond, Option, Some, None}
-use Rattle.std.proofs.Common.{IfSome, Result, Ok, Err, List, [], ◌∷◌, eqb, slice_index, refl, sym, ap, ◌∙◌, subst}
+use Rattle.std.proofs.Common.{◌≡◌, ℕ, ℤ, ◌+◌, ◌%◌, ◌^◌, ◌<◌, ◌≤◌, ◌&&◌, not, Bool, true, false, cond, Option, Some, None}
+use Rattle.std.proofs.Common.{IfSome, Ok, Err, List, [], ◌∷◌, eqb, slice_index, refl, sym, ap, ◌∙◌, subst}
 use Rattle.std.specs.Prelude.{count_ones}
 use Rattle.std.specs.Int.{int_wrap, w32}
 use Rattle.std.proofs.lemmas.Bool.{eqb-true, eq-eqb, ne_eqb, eqb-false, false≢true}
 use Rattle.std.proofs.Math.IntN.{+ℤ_idl, +ℤ_idr}
 use Rattle.elf32_image.specs.Parts.{ImageValue}
-use Rattle.arm_isa.specs.declared.conditions.Flags.{Flags}
 use Rattle.arm_isa.specs.declared.instruction.BlockTransfer.{BlockTransfer}
 use Rattle.arm_isa.specs.declared.instruction.WordTransfer.{WordTransfer}
 use Rattle.arm_isa.specs.declared.instruction.Op.{Op}
 use Rattle.arm_isa.specs.declared.instruction.Op.TheVariants as op
-use Rattle.arm_isa.specs.declared.instruction.Operand.{Operand}
-use Rattle.arm_isa.specs.declared.instruction.Operand.TheVariants as operand
-use Rattle.arm_isa.specs.declared.instruction.Shift.TheVariants as shift
-use Rattle.arm_isa.specs.declared.opcodes.Opcode.{Opcode}
-use Rattle.arm_isa.specs.declared.opcodes.Opcode.TheVariants as opcode
 use Rattle.arm_isa.specs.Guarantees.{IsGuarded}
 use Rattle.arm_isa.specs.Opcodes.{is_plain_move}
 use Rattle.arm_isa.specs.Ranges.{IsOffset, IsOp}
 use Rattle.arm_isa.specs.Writes.{is_after, is_link_register, is_listed, is_one_word, op_returns}
 use Rattle.control_flow.specs.Ways.{return_place}
 use Rattle.arm_cpu.specs.declared.cpu.Cpu.{Cpu}
-use Rattle.arm_cpu.specs.declared.stops.Stop.{Stop}
 use Rattle.arm_cpu.specs.declared.stops.Stop.TheVariants as stop
 use Rattle.arm_cpu.specs.Registers.{advanced, jumped, read, signed_of, with_register, written}
 use Rattle.arm_cpu.specs.Shifts.{operand_carry, operand_value}

@@ -27,7 +27,7 @@ use Rattle.arm_machine.proofs.StayLemmas.{if_weaker, stays}
 use Rattle.arm_machine.proofs.StepLemmas.{charged, if_step, step_at, step_constants}
 use Rattle.path_facts.specs.Facts.{IsTrueOf}
 use Rattle.path_facts.specs.Facts.Location.{Register, StackWord}
-use Rattle.path_facts.specs.Facts.Origin.{AtStart}
+use Rattle.path_facts.specs.declared.origin.Origin.TheVariants.{AtStart}
 use Rattle.path_facts.specs.Histories.{AreTrue, FactsHold, HasStack, HoldsAt, IsFollowed, IsHistoryOf, facts_after, facts_of, facts_through}
 use Rattle.path_facts.specs.Histories.{start_facts}
 use Rattle.path_facts.specs.Routes.{FollowsRoute, IsAt, IsRouteFrom, instruction_cost, way_cycles}

@@ -6,8 +6,9 @@ use Rattle.std.specs.Ordering.{int_eq}
 use Rattle.elf32_image.specs.Parts.{ImageValue}
 use Rattle.control_flow.specs.Points.{Point, last_return}
 use Rattle.control_flow.specs.Ways.{IsCollected, fault_at}
-use Rattle.path_facts.specs.Facts.{Fact, Origin}
-use Rattle.path_facts.specs.Facts.Origin.{Zero, AtStart}
+use Rattle.path_facts.specs.Facts.{Fact}
+use Rattle.path_facts.specs.declared.origin.Origin.{Origin}
+use Rattle.path_facts.specs.declared.origin.Origin.TheVariants.{Zero, AtStart}
 use Rattle.path_facts.specs.Histories.{IsFollowed, facts_of, returned_fact, wanted_fact}
 use Rattle.path_facts.specs.StackUse.{IsReturnUnproved}
 

@@ -30,10 +30,11 @@ use Rattle.arm_machine.proofs.OrderLemmas.{stays_orderly}
 use Rattle.arm_machine.proofs.StayLemmas.{if_any, if_weaker, stays}
 use Rattle.arm_machine.proofs.StepLemmas.{charged, if_step, step_at}
 use Rattle.arm_machine.proofs.WordLemmas.{advanced_words}
-use Rattle.path_facts.specs.Facts.{Fact, Facts, IsCongruent, IsTrueOf, Location, Origin, Says, Source, fact_from, offset_from, offset_in}
+use Rattle.path_facts.specs.Facts.{Fact, Facts, IsCongruent, IsTrueOf, Location, Says, Source, fact_from, offset_from, offset_in}
+use Rattle.path_facts.specs.declared.origin.Origin.{Origin}
 use Rattle.path_facts.specs.Facts.{offset_of, origin_value, value_in, word_address}
 use Rattle.path_facts.specs.Facts.Location.{Register, StackWord}
-use Rattle.path_facts.specs.Facts.Origin.{Zero, AtStart}
+use Rattle.path_facts.specs.declared.origin.Origin.TheVariants.{Zero, AtStart}
 use Rattle.path_facts.specs.Histories.{AreTrue, FactsHold, HasStack, facts_after, facts_done, is_above, literal_of, without_marks_below}
 use Rattle.path_facts.specs.Sources.{is_tracked, source_of}
 use Rattle.path_facts.proofs.BlockLemmas.{block_marked, block_row, block_stored}

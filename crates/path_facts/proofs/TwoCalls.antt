@@ -1,16 +1,15 @@
 -- The facts of a function that calls another one twice, worked out by the definitions: each call has a return address of its
 -- own, and what the caller saved stays.
-use Rattle.std.proofs.Common.{◌≡◌, ℕ, ℤ, pos, neg_ℤ, Bool, true, false, Contains, Option, Some, None, List, [], ◌∷◌, refl}
+use Rattle.std.proofs.Common.{◌≡◌, pos, neg_ℤ, Some, None, List, [], ◌∷◌, refl}
 use Rattle.arm_isa.specs.declared.instruction.Op.TheVariants as op
 use Rattle.control_flow.specs.Points.{Point}
-use Rattle.control_flow.specs.Routes.{Place, Taken, Way}
+use Rattle.control_flow.specs.Routes.{Taken, Way}
 use Rattle.control_flow.specs.Routes.Place.{At, Exit}
 use Rattle.control_flow.specs.Ways.{ways_from}
 use Rattle.arm_machine.specs.Blocks.{registers_of}
 use Rattle.path_facts.specs.Example.{two_calls_image}
-use Rattle.path_facts.specs.Facts.{Fact}
-use Rattle.path_facts.specs.Facts.Location.{Register, StackWord}
-use Rattle.path_facts.specs.Facts.Origin.{Zero, AtStart}
+use Rattle.path_facts.specs.Facts.Location.{Register}
+use Rattle.path_facts.specs.declared.origin.Origin.TheVariants.{Zero, AtStart}
 use Rattle.path_facts.specs.Histories.{facts_of, returned_fact, wanted_fact}
 use Rattle.path_facts.proofs.Example.{done_at, only, point_at, pop}
 

@@ -6,16 +6,13 @@ use Rattle.arm_cpu.specs.Registers.{signed_of}
 use Rattle.arm_machine.specs.declared.access.Size.TheVariants as size
 use Rattle.arm_machine.specs.Access.{number_at}
 use Rattle.arm_machine.specs.States.{State}
+use Rattle.path_facts.specs.declared.origin.Origin.{Origin}
+use Rattle.path_facts.specs.declared.origin.Origin.TheVariants.{Zero, AtStart}
 
 -- a register, or the word 4 × k bytes below where r13 pointed at the start
 pub data Location : Type 0 where
   Register : (r : ℕ) → Location
   StackWord : (k : ℕ) → Location
-
--- zero, or what a register held at the start
-pub data Origin : Type 0 where
-  Zero : Origin
-  AtStart : (r : ℕ) → Origin
 
 -- a location holds the origin plus the constant
 pub record Fact : Type 0 where

@@ -19,7 +19,7 @@ use Rattle.arm_machine.specs.Orderly.{HasConstants, IsOrderly}
 use Rattle.arm_machine.specs.States.{State}
 use Rattle.path_facts.specs.Facts.{Fact, Facts, IsTrueOf, Location, fact_from, offset_of, value_in, word_address}
 use Rattle.path_facts.specs.Facts.Location.{Register, StackWord}
-use Rattle.path_facts.specs.Facts.Origin.{Zero, AtStart}
+use Rattle.path_facts.specs.declared.origin.Origin.TheVariants.{Zero, AtStart}
 use Rattle.path_facts.specs.Sources.{indexed, mark_of, return_source, source_of}
 
 -- the word of the image, which no program can write, that an instruction at an address loads by r15 and a constant

@@ -6,9 +6,11 @@
 #![tactic(auto)]
 
 mod laws;
+mod origin;
 
 pub use laws::{
     an_example_is_followed, facts_hold_after_steps, followed_unless_returns_are_unproved,
     instructions_are_guarded, offsets_touch_the_same_words, runs_follow_routes, sources_give_facts,
     values_have_their_sources,
 };
+pub use origin::Origin;

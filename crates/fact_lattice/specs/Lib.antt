@@ -1,0 +1,4 @@
+pub mod Cells
+pub mod Flows
+pub mod Searches
+pub mod Weights

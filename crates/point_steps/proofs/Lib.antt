@@ -1,0 +1,4 @@
+pub mod AccessLemmas
+pub mod ChangeLemmas
+pub mod Listed
+pub mod OffsetLemmas
