@@ -3,17 +3,8 @@ ghost use Rattle.std.specs.Prelude.{◌≡◌, ◌≤◌, ◌<◌, ◌+◌, max,
 ghost use Rattle.wsym_terms.specs.declared.trees.Tree.{Tree as TreeValue};
 ghost use Rattle.wsym_terms.specs.declared.trees.Tree.TheVariants.{Seq};
 ghost use Rattle.tree_law.specs.Ways.{members as members_of};
-ghost use Rattle.elimination_plans.specs.Plans.{
-  via,
-  node_of_plan,
-  stacked,
-  Unrolls,
-  Falls,
-  effort,
-  efforts,
-  high,
-  top,
-};
+ghost use Rattle.elimination_plans.specs.Plans.{via, node_of_plan, stacked, Unrolls, Falls, effort, efforts, high};
+ghost use Rattle.elimination_plans.specs.Plans.{top};
 ghost use Rattle.elimination_plans.specs.Stages.{Task, Stage, IsDone, EndsApart, tree_members};
 
 use crate::plans::{Piece, Plan, spread};

@@ -1,0 +1,4 @@
+pub mod Cells
+pub mod GivenLevels
+pub mod LevelStates
+pub mod Tables
