@@ -1,5 +1,6 @@
 pub mod CellChangeLemmas
 pub mod CellStepLemmas
+pub mod FinishedLevelLemmas
 pub mod GainLemmas
 pub mod JoinedWayLemmas
 pub mod LevelStartLemmas

@@ -1,4 +1,5 @@
 pub mod Cells
 pub mod GivenLevels
+pub mod LevelPlans
 pub mod LevelStates
 pub mod Tables

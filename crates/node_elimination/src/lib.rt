@@ -2,6 +2,7 @@
 #![tactic(auto)]
 
 mod cells;
+mod level;
 mod pulling;
 mod starting;
 mod table;
@@ -9,6 +10,7 @@ mod taking;
 mod tally;
 
 pub use cells::Cell;
+pub use level::{DEEPEST, LevelPlan, eliminate};
 pub use starting::start;
 pub use table::Table;
 pub use taking::{Elimination, MOST, TreeRefusal};
