@@ -13,6 +13,9 @@ use Rattle.tree_law.specs.Ways.{IsIn, members, all_taken_out, edge_ways}
 use Rattle.tree_law.specs.NodeOrders.{without, first_least, weight_after}
 use Rattle.elimination_plans.specs.AddedWays.{listed, has}
 use Rattle.elimination_plans.specs.PlanSteps.{some, and_gone, plan_step}
+use Rattle.node_elimination.specs.Measures.{AreMeasures}
+use Rattle.elimination_plans.proofs.WeightLemmas.{members_leaves}
+use Rattle.tree_law.specs.NodeOrders.{leaves_of}
 use Rattle.elimination_plans.specs.Stages.{Task, Stage, next_stage, ways_at, Went, IsDone, IsLarge, tree_members}
 use Rattle.elimination_plans.specs.Weights.{into_count, out_count}
 use Rattle.elimination_plans.proofs.AddedWayLemmas.{not_and, put_end}
@@ -222,7 +225,7 @@ measured k s from to d e f =
 
 pub sizes_are : (k : Task) (s : Stage) (e : Elimination) (from to : ℕ) (c : Cell) (o : Option Cell)
     → o ≡ tree.get pair_cmp e.table.cells (from, to) → o ≡ Some c → IsDone k s → Holds k s e → k.from ≡ from → k.to ≡ to
-    → (members_size c ≡ sum_over size_of (tree_members k)) × (members_depth c ≡ max_over tree_nesting (tree_members k))
+    → AreMeasures k (record { count = 1; leaves = c.leaves; size = members_size c; depth = members_depth c })
 sizes_are k s e from to c o got is d held a b = by_ways (ways_at k s from to) refl
   where
     found : cells_at k s from to ≡ Some c
@@ -235,29 +238,35 @@ sizes_are k s e from to c o got is d held a b = by_ways (ways_at k s from to) re
         unwrapped z None = z
         unwrapped z (Some w) = w
 
-    by_ways : (ws : List (List Tree)) → ways_at k s from to ≡ ws → (members_size c ≡ sum_over size_of (tree_members k))
-        × (members_depth c ≡ max_over tree_nesting (tree_members k))
+    by_ways : (ws : List (List Tree)) → ways_at k s from to ≡ ws
+        → AreMeasures k (record { count = 1; leaves = c.leaves; size = members_size c; depth = members_depth c })
     by_ways [] f = absurd (let g : ◌≡◌ {A = Option Cell} None (Some c) = sym (ap cell_of f) ∙ found in cc)
     by_ways (w ∷ ws) f =
         let g : c ≡ figures (w ∷ ws) = same c (figures (w ∷ ws)) (sym found ∙ ap cell_of f) in
-        let m : members (w ∷ ws) ≡ tree_members k = ap members (sym f) ∙ measured k s from to d a b in (
-          ap members_size g ∙ sym (size_is w ws) ∙ ap (sum_over size_of) m,
-          ap members_depth g ∙ sym (depth_is w ws)
-              ∙ ap (max_over tree_nesting) m,
-        )
+        let m : members (w ∷ ws) ≡ tree_members k = ap members (sym f) ∙ measured k s from to d a b in
+        record {
+          leaves = ap (λ (x : Cell). x.leaves) g ∙ sym (members_leaves (w ∷ ws)) ∙ ap (sum_over leaves_of) m;
+          size = ap members_size g ∙ sym (size_is w ws) ∙ ap (sum_over size_of) m;
+          depth = ap members_depth g ∙ sym (depth_is w ws) ∙ ap (max_over tree_nesting) m;
+        }
 
 pub no_sizes : (k : Task) (s : Stage) (e : Elimination) (from to : ℕ) (o : Option Cell) → o ≡ tree.get pair_cmp e.table.cells (from, to)
     → o ≡ None → IsDone k s → Holds k s e → k.from ≡ from → k.to ≡ to
-    → (0 ≡ sum_over size_of (tree_members k)) × (0 ≡ max_over tree_nesting (tree_members k))
+    → AreMeasures k (record { count = 1; leaves = 0; size = 0; depth = 0 })
 no_sizes k s e from to o got is d held a b = by_ways (ways_at k s from to) refl
   where
-    by_ways : (ws : List (List Tree)) → ways_at k s from to ≡ ws → (0 ≡ sum_over size_of (tree_members k))
-        × (0 ≡ max_over tree_nesting (tree_members k))
+    by_ways : (ws : List (List Tree)) → ways_at k s from to ≡ ws
+        → AreMeasures k (record { count = 1; leaves = 0; size = 0; depth = 0 })
     by_ways [] f =
         let m : [] ≡ tree_members k = ap members (sym f) ∙ measured k s from to d a b in
-        (ap (sum_over size_of) m, ap (max_over tree_nesting) m)
+        record { leaves = ap (sum_over leaves_of) m; size = ap (sum_over size_of) m; depth = ap (max_over tree_nesting) m }
     by_ways (w ∷ ws) f = absurd (let g : ◌≡◌ {A = Option Cell} (cell_of (w ∷ ws)) None = sym (ap cell_of f) ∙ sym (held.table.cells from to)
         ∙ sym got ∙ is in cc)
+
+pub measures_of : (k : Task) (c : Cell) (size depth : ℕ) → size ≡ members_size c → depth ≡ members_depth c
+    → AreMeasures k (record { count = 1; leaves = c.leaves; size = members_size c; depth = members_depth c })
+    → AreMeasures k (record { count = 1; leaves = c.leaves; size = size; depth = depth })
+measures_of k c size depth e f m = record { leaves = m.leaves; size = e ∙ m.size; depth = f ∙ m.depth }
 
 abbrev err_of : {T U E : Type 0} → E → Result T E → Result U E
 err_of d (Ok t) = Err d

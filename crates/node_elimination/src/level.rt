@@ -14,23 +14,22 @@ use std::alloc::Global;
 /// How deep a tree may nest.
 pub const DEEPEST: u64 = 1000;
 
-/// A level whose nodes are all taken out: its plan, and the size and the nesting of what stands between its ends.
+/// A level whose nodes are all taken out: its plan, and the numbers of what stands between its ends.
 #[derive(Drop)]
 pub struct LevelPlan {
     pub plan: Plan,
-    pub size: u64,
-    pub nesting: u64,
+    pub measures: Cell,
 }
 
 /// The plan of a level that is done, unless its trees are too large.
-fn finish(level: Elimination, size: u64, nesting: u64) -> Result<LevelPlan, TreeRefusal>
-    ensures planned { IfOk result (λ p. IsFinished level size nesting p) }
-    ensures large { IsErrOf result TreeRefusal.TooLarge → (500000 < size) ⊎ (1000 < nesting) }
+fn finish(level: Elimination, measures: Cell) -> Result<LevelPlan, TreeRefusal>
+    ensures planned { IfOk result (λ p. IsFinished level measures p) }
+    ensures large { IsErrOf result TreeRefusal.TooLarge → (500000 < measures.size) ⊎ (1000 < measures.depth) }
 {
-    if size > MOST {
+    if measures.size > MOST {
         return Err(TreeRefusal::TooLarge);
     }
-    if nesting > DEEPEST {
+    if measures.depth > DEEPEST {
         return Err(TreeRefusal::TooLarge);
     }
     let Elimination {
@@ -38,11 +37,7 @@ fn finish(level: Elimination, size: u64, nesting: u64) -> Result<LevelPlan, Tree
         plan,
         nodes: _,
     } = level;
-    Ok(LevelPlan {
-        plan,
-        size,
-        nesting,
-    })
+    Ok(LevelPlan { plan, measures })
 }
 
 /// Takes out all nodes between two ends of a level, where the numbers of the nodes' trees, the edges and the nodes are
@@ -76,5 +71,5 @@ pub fn eliminate(
     let Ok(measures) = level.measures(from, to) else {
         return Err(TreeRefusal::Memory);
     };
-    finish(level, measures.0, measures.1)
+    finish(level, measures)
 }

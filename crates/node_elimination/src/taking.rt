@@ -3,14 +3,11 @@ ghost use Rattle.std.specs.Prelude.{◌≡◌, ◌≢◌, ◌<◌, ◌+◌, ◌*
 ghost use Rattle.std.specs.Prelude.{if◌then◌else◌, ◌&&◌, Option, Some, None, is_some, length, IfOk, OnOk, IsErrOf};
 ghost use Rattle.std.specs.Prelude.{IfSome, IfNone};
 ghost use Rattle.elimination_plans.specs.AddedWays.{listed};
-ghost use Rattle.elimination_plans.specs.Stages.{Task, Stage, Went, IsDone, IsLarge, first_stage, tree_members};
+ghost use Rattle.elimination_plans.specs.Stages.{Task, Stage, Went, IsDone, IsLarge, first_stage};
 ghost use Rattle.node_elimination.specs.declared.cells.Cell.{Cell as CellValue};
 ghost use Rattle.node_elimination.specs.Cells.{AreIn, cells_step, firsts};
 ghost use Rattle.node_elimination.specs.LevelStates.{IsTask, IsStage, Holds, cell_at};
-ghost use Rattle.wsym_terms.specs.TreeNesting.{tree_nesting};
-ghost use Rattle.wsym_terms.specs.Trees.{size_of};
-ghost use Rattle.tree_law.specs.NodeOrders.{sum_over};
-ghost use Rattle.elimination_plans.specs.TreeDepths.{max_over};
+ghost use Rattle.node_elimination.specs.Measures.{AreMeasures};
 ghost use Rattle.node_elimination.specs.Tables.{Gains, Keeps, sums_at};
 
 use crate::cells::{Cell, depth_of_members, size_of_members};
@@ -164,18 +161,28 @@ impl Elimination {
         Err(TreeRefusal::Memory)
     }
 
-    /// The size and the depth of what stands between the ends, once all nodes are taken out.
-    pub fn measures(&self, from: u32, to: u32) -> Result<(u64, u64), AllocError>
-        ensures { IfOk result (λ n. (k : Task) (s : Stage) → IsDone k s → Holds k s self.now → k.from ≡ from
-            → k.to ≡ to → (n.0 ≡ sum_over size_of (tree_members k)) × (n.1 ≡ max_over tree_nesting (tree_members k))) }
+    /// The numbers of what stands between the ends, as of one way, once all nodes are taken out.
+    pub fn measures(&self, from: u32, to: u32) -> Result<Cell, AllocError>
+        ensures { IfOk result (λ c. (k : Task) (s : Stage) → IsDone k s → Holds k s self.now → k.from ≡ from
+            → k.to ≡ to → AreMeasures k c) }
     {
         match self.table.cell(from, to) {
             Some(cell) => {
                 let size = size_of_members(cell)?;
                 let depth = depth_of_members(cell)?;
-                Ok((size, depth))
+                Ok(Cell {
+                    count: 1,
+                    leaves: cell.leaves,
+                    size,
+                    depth,
+                })
             }
-            None => Ok((0, 0)),
+            None => Ok(Cell {
+                count: 1,
+                leaves: 0,
+                size: 0,
+                depth: 0,
+            }),
         }
     }
 }

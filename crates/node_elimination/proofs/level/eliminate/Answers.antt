@@ -7,7 +7,7 @@ pub returns-clause-planned : goal.returns-clause-planned
 returns-clause-planned c =
     if_ok_more _ _ (λ p f k rank h given from to.
     let d = c.in-Ok-take_out_all.ensures.done k rank h (c.in-Ok.ensures k rank h given) in
-    planned k _ _ _ p f d (c.in-Ok-measures.ensures k d.0 d.1 d.2 from to)) c.finish.result c.finish.ensures.planned
+    planned k _ _ p f d (c.in-Ok-measures.ensures k d.0 d.1 d.2 from to)) c.finish.result c.finish.ensures.planned
 
 pub returns-in-Err-clause-large : goal.returns-in-Err-clause-large
 returns-in-Err-clause-large c e k rank h given f t =
@@ -16,4 +16,4 @@ returns-in-Err-clause-large c e k rank h given f t =
 pub returns-clause-large : goal.returns-clause-large
 returns-clause-large c e k rank h given f t =
     let d = c.in-Ok-take_out_all.ensures.done k rank h (c.in-Ok.ensures k rank h given) in
-    past k _ _ (c.finish.ensures.large e) (c.in-Ok-measures.ensures k d.0 d.1 d.2 f t)
+    past k _ (c.finish.ensures.large e) (c.in-Ok-measures.ensures k d.0 d.1 d.2 f t)
