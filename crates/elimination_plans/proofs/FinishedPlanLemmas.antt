@@ -1,12 +1,12 @@
 -- A plan whose nodes are all taken out makes the tree between the ends of its level.
 use Rattle.std.proofs.Common.{◌≡◌, ℕ, suc, ◌+◌, ◌<◌, false, nat_eq, List, [], ◌∷◌, length, refl, sym, ap, subst, ◌∙◌, arith}
-use Rattle.std.specs.Prelude.{unwrap_or, slice_get}
+use Rattle.std.specs.Prelude.{Option, unwrap_or, slice_get}
 use Rattle.wsym_terms.specs.declared.trees.Tree.{Tree}
 use Rattle.tree_law.specs.Ways.{members, edge_ways}
 use Rattle.tree_law.specs.NodeOrders.{order_of}
 use Rattle.tree_law.proofs.NodeOrderLemmas.{all_of_order}
 use Rattle.elimination_plans.specs.declared.plans.Plan.{Plan}
-use Rattle.elimination_plans.specs.Plans.{via, node_of_plan, Unrolls, Falls}
+use Rattle.elimination_plans.specs.Plans.{Extends, via, node_of_plan, Unrolls, Falls}
 use Rattle.elimination_plans.specs.PlanSteps.{ways_after, edge_plan, Stands}
 use Rattle.elimination_plans.specs.Stages.{Task, Stage, IsDone, EndsApart, tree_members}
 use Rattle.elimination_plans.proofs.PlanStepLemmas.{all_planned, start_planned}
@@ -45,13 +45,13 @@ done_members k s d apart =
     (all_of_order k.tree k.from k.to (λ v. nat_eq k.from v ≡ false) (edge_ways k.edge) k.nodes apart.0)
     (all_of_order k.tree k.from k.to (λ v. nat_eq k.to v ≡ false) (edge_ways k.edge) k.nodes apart.1))
 
-pub built_between : (k : Task) (s : Stage) (p : Plan) (tree : ℕ → Tree) (from to : ℕ) (ts : List Tree)
-    → ((F : ℕ → ℕ → List (List Tree)) → Unrolls tree (node_of_plan p) (via p) F → ts ≡ members (F from to))
-    → IsDone k s → EndsApart k → tree ≡ k.tree → k.from ≡ from → k.to ≡ to → via p ≡ s.plan → p.order ≡ s.taken → ts ≡ tree_members k
-built_between k s p tree from to ts h d apart e f g same order =
-    h (ways_after k.tree s.taken (λ q. false) (edge_ways k.edge)) (subst
-    (λ (x : ℕ → Tree). Unrolls x (node_of_plan p) (via p) (ways_after k.tree s.taken (λ q. false) (edge_ways k.edge))) (sym e)
-    (done_plan k s p d same order).0)
+pub built_between : (k : Task) (s : Stage) (p : Plan) (had : ℕ → Option Tree) (from to : ℕ) (ts : List Tree)
+    → ((tree : ℕ → Tree) (F : ℕ → ℕ → List (List Tree)) → Extends had tree → Unrolls tree (node_of_plan p) (via p) F
+    → ts ≡ members (F from to))
+    → IsDone k s → EndsApart k → Extends had k.tree → k.from ≡ from → k.to ≡ to → via p ≡ s.plan → p.order ≡ s.taken
+    → ts ≡ tree_members k
+built_between k s p had from to ts h d apart e f g same order =
+    h k.tree (ways_after k.tree s.taken (λ q. false) (edge_ways k.edge)) e (done_plan k s p d same order).0
     ∙ ap (λ (u : ℕ). members (ways_after k.tree s.taken (λ q. false) (edge_ways k.edge) u to)) (sym f)
     ∙ ap (λ (u : ℕ). members (ways_after k.tree s.taken (λ q. false) (edge_ways k.edge) k.from u)) (sym g)
     ∙ done_members k s d apart

@@ -29,6 +29,10 @@ abbrev pub way_of : (ℕ → Tree) → (ℕ → ℕ) → (ℕ → ℕ → List (
 way_of tree node F p q zero = []
 way_of tree node F p q (suc j) = members (F p (node j)) ++ tree (node j) ∷ members (F (node j) q)
 
+-- trees that are had are those of all nodes
+abbrev pub Extends : (ℕ → Option Tree) → (ℕ → Tree) → Type 0
+Extends had tree = (v : ℕ) (t : Tree) → had v ≡ Some t → t ≡ tree v
+
 -- F has the ways that a plan says
 abbrev pub Unrolls : (ℕ → Tree) → (ℕ → ℕ) → (ℕ → ℕ → List ℕ) → (ℕ → ℕ → List (List Tree)) → Type 0
 Unrolls tree node ways F = (p q : ℕ) → F p q ≡ map (way_of tree node F p q) (ways p q)

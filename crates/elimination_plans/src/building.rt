@@ -1,9 +1,9 @@
 //! The trees of a level from its plan.
-ghost use Rattle.std.specs.Prelude.{◌≡◌, ◌≤◌, ◌<◌, ◌+◌, max, ◌++◌, ◌∷◌, [], ℕ, List, IfOk, OnOk, map};
+ghost use Rattle.std.specs.Prelude.{◌≡◌, ◌≤◌, ◌<◌, ◌+◌, max, ◌++◌, ◌∷◌, [], ℕ, List, IfOk, OnOk, map, Option, Some};
 ghost use Rattle.wsym_terms.specs.declared.trees.Tree.{Tree as TreeValue};
 ghost use Rattle.wsym_terms.specs.declared.trees.Tree.TheVariants.{Seq};
 ghost use Rattle.tree_law.specs.Ways.{members as members_of};
-ghost use Rattle.elimination_plans.specs.Plans.{via, node_of_plan, stacked, Unrolls, Falls, effort, efforts, high};
+ghost use Rattle.elimination_plans.specs.Plans.{via, node_of_plan, stacked, Extends, Unrolls, Falls, effort, efforts, high};
 ghost use Rattle.elimination_plans.specs.Plans.{top};
 ghost use Rattle.elimination_plans.specs.Stages.{Task, Stage, IsDone, EndsApart, tree_members};
 
@@ -14,12 +14,12 @@ use wsym_terms::Tree;
 
 /// The nodes of a level.
 pub trait Nodes {
-    /// The tree of each node.
-    ghost tree: { Self → ℕ → TreeValue };
+    /// The trees of the nodes that have one.
+    ghost tree: { Self → ℕ → Option TreeValue };
 
-    /// A tree of a node.
+    /// The tree of a node.
     fn tree_of(&self, alloc: Global, node: u32) -> Result<Tree, AllocError>
-        ensures { IfOk result (λ t. t ≡ tree self.now node) };
+        ensures { IfOk result (λ t. tree self.now node ≡ Some t) };
 }
 
 /// The members of an edge of a level.
@@ -31,8 +31,9 @@ pub fn members<N: Nodes>(
     to: u32,
 ) -> Result<Items<Tree>, AllocError>
     requires falls { Falls (node_of_plan plan.now) (via plan.now) }
-    ensures { IfOk result (λ ts. (F : ℕ → ℕ → List (List TreeValue))
-        → Unrolls (N.tree nodes.now) (node_of_plan plan.now) (via plan.now) F → ts ≡ members_of (F from to)) }
+    ensures { IfOk result (λ ts. (tree : ℕ → TreeValue) (F : ℕ → ℕ → List (List TreeValue))
+        → Extends (N.tree nodes.now) tree
+        → Unrolls tree (node_of_plan plan.now) (via plan.now) F → ts ≡ members_of (F from to)) }
 {
     let mut stack = Vec::new(alloc);
     stack.push(Piece::Edge { from, to })?;
@@ -49,7 +50,7 @@ pub fn members_between<N: Nodes>(
     to: u32,
 ) -> Result<Items<Tree>, AllocError>
     requires falls { Falls (node_of_plan plan.now) (via plan.now) }
-    ensures { IfOk result (λ ts. (k : Task) (s : Stage) → IsDone k s → EndsApart k → N.tree nodes.now ≡ k.tree
+    ensures { IfOk result (λ ts. (k : Task) (s : Stage) → IsDone k s → EndsApart k → Extends (N.tree nodes.now) k.tree
         → k.from ≡ from → k.to ≡ to → via plan.now ≡ s.plan → plan.now.order ≡ s.taken → ts ≡ tree_members k) }
 {
     let made = members(alloc, plan, nodes, from, to)?;
@@ -65,9 +66,10 @@ fn run<N: Nodes>(
     stack: Vec<Piece>,
 ) -> Result<Items<Tree>, AllocError>
     requires falls { Falls (node_of_plan plan.now) (via plan.now) }
-    ensures { IfOk result (λ ts. (F : ℕ → ℕ → List (List TreeValue))
-        → Unrolls (N.tree nodes.now) (node_of_plan plan.now) (via plan.now) F
-        → ts ≡ stacked (N.tree nodes.now) F stack.items) }
+    ensures { IfOk result (λ ts. (tree : ℕ → TreeValue) (F : ℕ → ℕ → List (List TreeValue))
+        → Extends (N.tree nodes.now) tree
+        → Unrolls tree (node_of_plan plan.now) (via plan.now) F
+        → ts ≡ stacked tree F stack.items) }
 {
     let mut stack = stack;
     let mut made = Items::new(alloc);
@@ -98,10 +100,10 @@ fn unfold<N: Nodes>(
         efforts (via plan.now) stack.old.items) }
     ensures low { OnOk result (high (via plan.now) stack.new.items ≤ max (top (via plan.now from to))
         (high (via plan.now) stack.old.items)) }
-    ensures made { OnOk result ((F : ℕ → ℕ → List (List TreeValue))
-        → Unrolls (N.tree nodes.now) (node_of_plan plan.now) (via plan.now) F
-        → made.new ++ stacked (N.tree nodes.now) F stack.new.items ≡ made.old ++ members_of (F from to) ++ stacked
-        (N.tree nodes.now) F stack.old.items) }
+    ensures made { OnOk result ((tree : ℕ → TreeValue) (F : ℕ → ℕ → List (List TreeValue))
+        → Extends (N.tree nodes.now) tree
+        → Unrolls tree (node_of_plan plan.now) (via plan.now) F
+        → made.new ++ stacked tree F stack.new.items ≡ made.old ++ members_of (F from to) ++ stacked tree F stack.old.items) }
 {
     let ways = plan.ways_of(from, to);
     if ways.len() > 1 {
@@ -124,8 +126,9 @@ fn choices<N: Nodes>(
     to: u32,
 ) -> Result<Items<Tree>, AllocError>
     requires falls { Falls (node_of_plan plan.now) (via plan.now) }
-    ensures { IfOk result (λ ts. (F : ℕ → ℕ → List (List TreeValue))
-        → Unrolls (N.tree nodes.now) (node_of_plan plan.now) (via plan.now) F → ts ≡ map Seq (F from to)) }
+    ensures { IfOk result (λ ts. (tree : ℕ → TreeValue) (F : ℕ → ℕ → List (List TreeValue))
+        → Extends (N.tree nodes.now) tree
+        → Unrolls tree (node_of_plan plan.now) (via plan.now) F → ts ≡ map Seq (F from to)) }
 {
     let mut made = Items::new(alloc);
     for entry in plan.ways_of(from, to) {

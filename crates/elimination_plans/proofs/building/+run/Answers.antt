@@ -24,11 +24,11 @@ choices-loop-entry-preserved g t c =
     (get_or c.ways_of-entry-items.result.now c.loop-entry.entry-index 0)) c.new-stack.ensures.items in
     record {
       items = c.loop-entry.invariant.items;
-      made = λ F u. next_choices (g.N.Nodes.tree c.args.nodes.now) F (node_of_plan plan) c.args.from c.args.to
+      made = λ tree F x u. next_choices tree F (node_of_plan plan) c.args.from c.args.to
           c.ways_of-entry-items.result.now c.loop-entry.entry-index c.loop-entry.made c.push.new.self c.spread.new.stack.items
           c.in_ok-run.field-0
-          (c.in_ok-run.ensures F u) from (take_more c.ways_of-entry-items.result.now c.loop-entry.entry-index 0 c.loop-entry-test.true)
-          (c.loop-entry.invariant.made F u) c.in_ok-push.ensures.ok;
+          (c.in_ok-run.ensures tree F x u) from (take_more c.ways_of-entry-items.result.now c.loop-entry.entry-index 0 c.loop-entry-test.true)
+          (c.loop-entry.invariant.made tree F x u) c.in_ok-push.ensures.ok;
     }
 
 pub run-unfold-requires : goal.run-unfold-requires
@@ -49,9 +49,9 @@ pub run-loop-piece-preserved-in_ok-unfold-in-Edge : goal.run-loop-piece-preserve
 run-loop-piece-preserved-in_ok-unfold-in-Edge g t c =
     let e = c.in-Some.ensures.items ∙ ap (λ (x : Piece). c.pop.new.self.items ++ x ∷ []) c.in-Edge.is in
     record {
-      made = λ F u. edge_made (g.N.Nodes.tree c.args.nodes.now) F c.loop-piece.stack.items c.pop.new.self.items c.unfold.new.stack.items
-          c.in-Edge.from c.in-Edge.to c.loop-piece.made c.unfold.new.made _ e (c.in_ok-unfold-in-Edge.ensures.made F u)
-          (c.loop-piece.invariant.made F u);
+      made = λ tree F x u. edge_made tree F c.loop-piece.stack.items c.pop.new.self.items c.unfold.new.stack.items
+          c.in-Edge.from c.in-Edge.to c.loop-piece.made c.unfold.new.made _ e (c.in_ok-unfold-in-Edge.ensures.made tree F x u)
+          (c.loop-piece.invariant.made tree F x u);
       low = edge_low (via c.args.plan.now) c.loop-piece.stack.items c.pop.new.self.items c.unfold.new.stack.items c.in-Edge.from
           c.in-Edge.to _ e c.in_ok-unfold-in-Edge.ensures.low c.loop-piece.invariant.low;
     }
@@ -65,17 +65,17 @@ pub run-loop-piece-preserved : goal.run-loop-piece-preserved
 run-loop-piece-preserved g t c =
     let e = c.in-Some.ensures.items ∙ ap (λ (x : Piece). c.pop.new.self.items ++ x ∷ []) c.in-Node.is in
     record {
-      made = λ F u. node_made (g.N.Nodes.tree c.args.nodes.now) F c.loop-piece.stack.items c.pop.new.self.items c.in-Node.node
-          c.loop-piece.made c.push.new.self _ c.in_ok-tree_of-in-Node.field-0 e c.in_ok-tree_of-in-Node.ensures
-          c.in_ok-push-in-Node.ensures.ok (c.loop-piece.invariant.made F u);
+      made = λ tree F x u. node_made tree F c.loop-piece.stack.items c.pop.new.self.items c.in-Node.node
+          c.loop-piece.made c.push.new.self _ c.in_ok-tree_of-in-Node.field-0 e (x _ _ c.in_ok-tree_of-in-Node.ensures)
+          c.in_ok-push-in-Node.ensures.ok (c.loop-piece.invariant.made tree F x u);
       low = node_low (via c.args.plan.now) c.loop-piece.stack.items c.pop.new.self.items c.in-Node.node _ e c.loop-piece.invariant.low;
     }
 
 pub unfold-returns-in_ok-push-clause-made : goal.unfold-returns-in_ok-push-clause-made
-unfold-returns-in_ok-push-clause-made g t c F u =
-    several_made (g.N.Nodes.tree c.args.nodes.now) F (node_of_plan c.args.plan.now) (via c.args.plan.now) u c.args.from c.args.to
+unfold-returns-in_ok-push-clause-made g t c tree F x u =
+    several_made tree F (node_of_plan c.args.plan.now) (via c.args.plan.now) u c.args.from c.args.to
     c.ways_of-ways.result.now c.ways_of-ways.ensures (search rules) c.args.made.now c.push.new.self c.in_ok-choices.field-0
-    c.args.stack.now.items (c.in_ok-choices.ensures F u) c.in_ok-push.ensures.ok
+    c.args.stack.now.items (c.in_ok-choices.ensures tree F x u) c.in_ok-push.ensures.ok
 
 pub unfold-returns-in_ok-spread-clause-lower : goal.unfold-returns-in_ok-spread-clause-lower
 unfold-returns-in_ok-spread-clause-lower g t c =
@@ -92,7 +92,7 @@ unfold-returns-in_ok-spread-clause-low g t c =
     c.args.from c.args.to (get_or c.ways_of-ways.result.now 0 0) inside c.in_ok-spread.ensures
 
 pub unfold-returns-in_ok-spread-clause-made : goal.unfold-returns-in_ok-spread-clause-made
-unfold-returns-in_ok-spread-clause-made g t c F u =
-    single_made (g.N.Nodes.tree c.args.nodes.now) F (node_of_plan c.args.plan.now) (via c.args.plan.now) u c.args.from c.args.to
+unfold-returns-in_ok-spread-clause-made g t c tree F x u =
+    single_made tree F (node_of_plan c.args.plan.now) (via c.args.plan.now) u c.args.from c.args.to
     c.ways_of-ways.result.now (get_or c.ways_of-ways.result.now 0 0) c.ways_of-ways.ensures (search rules) (search rules) refl
     c.args.made.now c.args.stack.now.items c.spread.new.stack.items c.in_ok-spread.ensures

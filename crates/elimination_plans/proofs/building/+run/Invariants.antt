@@ -1,7 +1,7 @@
 use Rattle.std.proofs.Common.{◌≡◌, ◌≤◌, ◌++◌, ℕ, List, map, ◌+◌, ◌*◌, take}
 use Rattle.wsym_terms.specs.declared.trees.Tree.{Tree as TreeValue}
 use Rattle.wsym_terms.specs.declared.trees.Tree.TheVariants.{Seq}
-use Rattle.elimination_plans.specs.Plans.{via, node_of_plan, stacked, way_of, Unrolls, top, high, efforts}
+use Rattle.elimination_plans.specs.Plans.{Extends, via, node_of_plan, stacked, way_of, Unrolls, top, high, efforts}
 use Rattle.elimination_plans.proofs.building.+run.Given as goal
 
 abbrev pub decreases-choices : goal.decreases-choices
@@ -17,16 +17,16 @@ abbrev pub invariant-choices-loop-entry : goal.invariant-choices-loop-entry
 invariant-choices-loop-entry g l =
     record {
       items : l.entry-items ≡ via l.fn.plan l.fn.from l.fn.to;
-      made : (F : ℕ → ℕ → List (List TreeValue)) → Unrolls (g.N.Nodes.tree l.fn.nodes) (node_of_plan l.fn.plan) (via l.fn.plan) F
-          → l.made ≡ map Seq (map (way_of (g.N.Nodes.tree l.fn.nodes) (node_of_plan l.fn.plan) F l.fn.from l.fn.to)
+      made : (tree : ℕ → TreeValue) (F : ℕ → ℕ → List (List TreeValue)) → Extends (g.N.Nodes.tree l.fn.nodes) tree → Unrolls tree (node_of_plan l.fn.plan) (via l.fn.plan) F
+          → l.made ≡ map Seq (map (way_of tree (node_of_plan l.fn.plan) F l.fn.from l.fn.to)
           (take l.entry-index l.entry-items));
     }
 
 abbrev pub invariant-run-loop-piece : goal.invariant-run-loop-piece
 invariant-run-loop-piece g l =
     record {
-      made : (F : ℕ → ℕ → List (List TreeValue)) → Unrolls (g.N.Nodes.tree l.fn.nodes) (node_of_plan l.fn.plan) (via l.fn.plan) F
-          → l.made ++ stacked (g.N.Nodes.tree l.fn.nodes) F l.stack.items ≡ stacked (g.N.Nodes.tree l.fn.nodes) F l.fn.stack.items;
+      made : (tree : ℕ → TreeValue) (F : ℕ → ℕ → List (List TreeValue)) → Extends (g.N.Nodes.tree l.fn.nodes) tree → Unrolls tree (node_of_plan l.fn.plan) (via l.fn.plan) F
+          → l.made ++ stacked tree F l.stack.items ≡ stacked tree F l.fn.stack.items;
       low : high (via l.fn.plan) l.stack.items ≤ high (via l.fn.plan) l.fn.stack.items;
     }
 
