@@ -23,7 +23,7 @@ pub max_append : {A : Type 0} (f : A → ℕ) (xs ys : List A) → max_over f (x
 max_append f [] ys = omega arith
 max_append f (x ∷ xs) ys = (let r = max_append f xs ys in omega (arith, r))
 
-seq_depth : (ts : List Tree) → tree_nesting (Seq ts) ≡ 1 + max_over tree_nesting ts
+pub seq_depth : (ts : List Tree) → tree_nesting (Seq ts) ≡ 1 + max_over tree_nesting ts
 seq_depth ts =
     let e : tree_nesting (Seq ts) ≡ suc (most (map tree_nesting ts)) = ap tree_nesting (sym (t.rolls-Seq ts))
     ∙ fold-roll-Tree ℕ level_depth (Tree-F.Seq ts) in

@@ -24,7 +24,7 @@ by_size : {A : Type 0} (f : A → ℕ) (xs : List A) → sum_by f xs ≡ sum_ove
 by_size f [] = refl
 by_size f (x ∷ xs) = (let a = sum_by-cons f x xs in let b = by_size f xs in omega (arith, a, b))
 
-seq_size : (ts : List Tree) → size_of (Seq ts) ≡ 1 + sum_over size_of ts
+pub seq_size : (ts : List Tree) → size_of (Seq ts) ≡ 1 + sum_over size_of ts
 seq_size ts = ap size_of (sym (t.rolls-Seq ts)) ∙ fold-roll-Tree ℕ level_size (Tree-F.Seq ts)
     ∙ ap (λ x. 1 + x) (sum-map size_of ts ∙ by_size size_of ts)
 

@@ -9,7 +9,7 @@ mod table;
 mod taking;
 mod tally;
 
-pub use cells::Cell;
+pub use cells::{Cell, plus};
 pub use level::{DEEPEST, LevelPlan, eliminate};
 pub use starting::start;
 pub use table::Table;

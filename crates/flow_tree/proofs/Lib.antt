@@ -1,0 +1,6 @@
+pub mod LevelTaskLemmas
+pub mod LoopCellLemmas
+pub mod LoopLevelLemmas
+pub mod LoopTreeLemmas
+pub mod NodeCellLemmas
+pub mod PlannedLevelLemmas

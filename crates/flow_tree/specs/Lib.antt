@@ -1,0 +1,3 @@
+pub mod FlowTables
+pub mod LevelNumbers
+pub mod LevelTasks
