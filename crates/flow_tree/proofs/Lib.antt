@@ -2,5 +2,8 @@ pub mod LevelTaskLemmas
 pub mod LoopCellLemmas
 pub mod LoopLevelLemmas
 pub mod LoopTreeLemmas
+pub mod MadeTreeLemmas
 pub mod NodeCellLemmas
 pub mod PlannedLevelLemmas
+pub mod TableLevelLemmas
+pub mod WholeTreeLemmas

@@ -64,15 +64,15 @@ pub record AreRows (l : Level) (t : ℕ) (r : PathRows) : Type 0 where
   pub nodes : l.nodes t ≡ r.nodes
   pub edges : (p q : ℕ) → l.useful t p q ≡ edges_of r.edges p q
 
--- the nest that the tables describe: its ends have the two numbers after that of the start, which is that of the blocks
-pub record AreTables (count : ℕ) (nest : LoopNest) (levels : List LevelRows) (blocks : List BlockUses) (n : Nest) : Type
-    0 where
+-- the nest that the tables describe, with the numbers of blocks and of the ends
+pub record AreTables (count close leave : ℕ) (nest : LoopNest) (levels : List LevelRows) (blocks : List BlockUses)
+    (n : Nest) : Type 0 where
   pub headers : (c : ℕ) → (n.level c).header ≡ header_by count nest c
-  pub closes : (c : ℕ) → (n.level c).close ≡ count + 1
-  pub leaves : (c : ℕ) → (n.level c).leave ≡ count + 2
+  pub closes : (c : ℕ) → (n.level c).close ≡ close
+  pub leaves : (c : ℕ) → (n.level c).leave ≡ leave
   pub children : (c v : ℕ) → n.child c v ≡ child_by count nest c v
-  pub turning : (c : ℕ) (l : LevelRows) → slice_get levels c ≡ Some l → AreRows (n.level c) (count + 1) l.turns
-  pub leaving : (c : ℕ) (l : LevelRows) → slice_get levels c ≡ Some l → AreRows (n.level c) (count + 2) l.leaves
+  pub turning : (c : ℕ) (l : LevelRows) → slice_get levels c ≡ Some l → AreRows (n.level c) close l.turns
+  pub leaving : (c : ℕ) (l : LevelRows) → slice_get levels c ≡ Some l → AreRows (n.level c) leave l.leaves
   pub costs : (b : ℕ) (u : BlockUses) → slice_get blocks b ≡ Some u → (n.base b ≡ u.base) × (n.uses b ≡ u.uses)
   pub inside : (c t v : ℕ) → IsEnd (n.level c) t → IsIn v ((n.level c).nodes t) → v < count
 

@@ -12,6 +12,7 @@ use std::alloc::{AllocError, Global};
 use wsym_terms::{BlockUses, Tree};
 
 /// The nodes of the level of a loop, and the numbers of its ends.
+#[derive(Clone, Copy)]
 pub struct LevelNodes<'a> {
     pub nest: &'a LoopNest,
     pub count: u32,

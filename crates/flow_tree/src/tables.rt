@@ -6,7 +6,7 @@ ghost use Rattle.flow_tree.specs.FlowTables.{child_by, header_by};
 use interval_loops::LoopNest;
 use node_elimination::Cell;
 use sqlite_items::Items;
-use wsym_terms::Tree;
+use wsym_terms::{BlockUses, Tree};
 
 /// What of a level lies on paths from its header to one of its ends: the nodes, ascending, and the edges.
 #[derive(Drop)]
@@ -80,4 +80,16 @@ pub fn child_of(nest: &LoopNest, count: u32, level: u32, node: u32) -> Option<u3
         return None;
     }
     None
+}
+
+/// A function's levels as tables: the nest of its loops, the rows of each level by the loop's number, where 0 is the
+/// whole function, what stands of each block in its leaf, the number of blocks, and the numbers of the two ends.
+#[derive(Clone, Copy)]
+pub struct FlowTables<'a> {
+    pub nest: &'a LoopNest,
+    pub levels: &'a [LevelRows],
+    pub blocks: &'a [BlockUses],
+    pub count: u32,
+    pub close: u32,
+    pub leave: u32,
 }

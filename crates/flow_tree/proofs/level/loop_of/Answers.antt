@@ -13,7 +13,8 @@ returns-in-Err-clause-large c e n height rank h =
       s.close,
       end,
       c.in-Err.ensures.large (other_ok _ _ e) (task_of n height s.level s.close) (rank s.level)
-          (task_at n height rank s rows h s.close end) (turning_task n height rank s rows h) (h.header ∙ sym c.header_of-header.ensures) refl,
+          (task_at n height rank s rows h s.close end) (turning_task n height rank s rows h) (h.header ∙ sym c.header_of-header.ensures)
+          refl,
     )
 
 pub returns-in-Err-plan_between-clause-large : goal.returns-in-Err-plan_between-clause-large
@@ -24,7 +25,8 @@ returns-in-Err-plan_between-clause-large c e n height rank h =
       s.leave,
       end,
       c.in-Err-plan_between.ensures.large (other_ok _ _ e) (task_of n height s.level s.leave) (rank s.level)
-          (task_at n height rank s rows h s.leave end) (leaving_task n height rank s rows h) (h.header ∙ sym c.header_of-header.ensures) refl,
+          (task_at n height rank s rows h s.leave end) (leaving_task n height rank s rows h) (h.header ∙ sym c.header_of-header.ensures)
+          refl,
     )
 
 pub loop_from-requires-clause-turning : goal.loop_from-requires-clause-turning
@@ -38,7 +40,8 @@ loop_from-requires-clause-turning c =
     let end = at_close n height rank s rows h in (
       task_of n height s.level s.close,
       c.in-Ok.ensures.planned (task_of n height s.level s.close) (rank s.level)
-          (task_at n height rank s rows h s.close end) (turning_task n height rank s rows h) (h.header ∙ sym c.header_of-header.ensures) refl,
+          (task_at n height rank s rows h s.close end) (turning_task n height rank s rows h) (h.header ∙ sym c.header_of-header.ensures)
+          refl,
       apart_at n height rank s rows h s.close end,
     )
 
@@ -53,7 +56,8 @@ loop_from-requires-clause-leaving c =
     let end = at_leave n height rank s rows h in (
       task_of n height s.level s.leave,
       c.in-Ok-plan_between.ensures.planned (task_of n height s.level s.leave) (rank s.level)
-          (task_at n height rank s rows h s.leave end) (leaving_task n height rank s rows h) (h.header ∙ sym c.header_of-header.ensures) refl,
+          (task_at n height rank s rows h s.leave end) (leaving_task n height rank s rows h) (h.header ∙ sym c.header_of-header.ensures)
+          refl,
       apart_at n height rank s rows h s.leave end,
     )
 
