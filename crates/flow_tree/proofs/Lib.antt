@@ -1,3 +1,4 @@
+pub mod LargeTreeLemmas
 pub mod LevelTaskLemmas
 pub mod LoopCellLemmas
 pub mod LoopLevelLemmas

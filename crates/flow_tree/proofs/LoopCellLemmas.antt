@@ -18,10 +18,10 @@ use Rattle.flow_tree.specs.LevelNumbers.{loop_cell}
 loop_leaves : (d : ℕ) (x y : Tree) → leaves_of (Loop d x y) ≡ leaves_of x + leaves_of y
 loop_leaves d x y = ap leaves_of (sym (t.rolls-Loop d x y)) ∙ fold-roll-Tree ℕ level_leaves (Tree-F.Loop d x y)
 
-loop_size : (d : ℕ) (x y : Tree) → size_of (Loop d x y) ≡ 1 + size_of x + size_of y
+pub loop_size : (d : ℕ) (x y : Tree) → size_of (Loop d x y) ≡ 1 + size_of x + size_of y
 loop_size d x y = ap size_of (sym (t.rolls-Loop d x y)) ∙ fold-roll-Tree ℕ level_size (Tree-F.Loop d x y)
 
-loop_depth : (d : ℕ) (x y : Tree) → tree_nesting (Loop d x y) ≡ suc (max (tree_nesting x) (tree_nesting y))
+pub loop_depth : (d : ℕ) (x y : Tree) → tree_nesting (Loop d x y) ≡ suc (max (tree_nesting x) (tree_nesting y))
 loop_depth d x y = ap tree_nesting (sym (t.rolls-Loop d x y)) ∙ fold-roll-Tree ℕ level_depth (Tree-F.Loop d x y)
 
 -- the numbers of some trees together

@@ -1,9 +1,9 @@
 //! The tree of a function, from the deepest loops up.
-ghost use Rattle.std.specs.Prelude.{◌≡◌, ◌≤◌, ◌⊎◌, ℕ, suc, IfOk, IsErrOf};
+ghost use Rattle.std.specs.Prelude.{◌≡◌, ◌<◌, ◌≤◌, ℕ, suc, IfOk, IsErrOf};
 ghost use Rattle.tree_law.specs.Levels.{Nest, function_tree as tree_of_nest};
 ghost use Rattle.wsym_terms.specs.Trees.{size_of};
 ghost use Rattle.wsym_terms.specs.TreeNesting.{tree_nesting};
-ghost use Rattle.flow_tree.specs.Descriptions.{AreMade, HasNest, HasPast, IsDescribed, IsTooLarge};
+ghost use Rattle.flow_tree.specs.Descriptions.{AreMade, AreUsed, HasNest, HasPast, IsDescribed, IsTooLarge};
 
 use crate::level::{loop_of, plan_between, trees_between};
 use crate::nodes::LevelNodes;
@@ -21,6 +21,7 @@ fn make_loop(
 ) -> Result<(), TreeRefusal>
     requires described { HasNest tables.now }
     requires old { AreMade tables.now trees.old.items }
+    requires some { 0 < number }
     ensures made { AreMade tables.now trees.new.items }
     ensures large { IsErrOf result TreeRefusal.TooLarge → (n : Nest) (height : ℕ → ℕ) (rank : ℕ → ℕ → ℕ)
         → IsDescribed tables.now n height rank → HasPast n height }
@@ -137,16 +138,15 @@ fn whole(
 ///
 /// # Errors
 ///
-/// `TooLarge` only where the function's tree is past a limit, or the trees between the header of some level and one
-/// of its ends are; it comes before such a tree is made.
+/// `TooLarge` exactly where the tree's size passes 500,000 or its nesting 1,000, in a nest whose loops lie on paths
+/// to ends of the levels round them; it comes before such a tree is made.
 pub fn function_tree(alloc: Global, tables: &FlowTables) -> Result<Tree, TreeRefusal>
     requires described { HasNest tables.now }
     ensures exact { IfOk result (λ t. (n : Nest) (height : ℕ → ℕ) (rank : ℕ → ℕ → ℕ)
         → IsDescribed tables.now n height rank → (t ≡ tree_of_nest n (suc (height 0)))
         × (size_of t ≤ 500000) × (tree_nesting t ≤ 1000)) }
     ensures large { IsErrOf result TreeRefusal.TooLarge → (n : Nest) (height : ℕ → ℕ) (rank : ℕ → ℕ → ℕ)
-        → IsDescribed tables.now n height rank
-        → IsTooLarge (tree_of_nest n (suc (height 0))) ⊎ HasPast n height }
+        → IsDescribed tables.now n height rank → AreUsed n height → IsTooLarge (tree_of_nest n (suc (height 0))) }
 {
     let Ok(none) = no_trees(alloc, tables) else {
         return Err(TreeRefusal::Memory);

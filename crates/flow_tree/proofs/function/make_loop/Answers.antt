@@ -3,6 +3,7 @@ use Rattle.std.proofs.lemmas.Option.{slice_get_read}
 use Rattle.node_elimination.proofs.StageStateLemmas.{other_ok}
 use Rattle.flow_tree.specs.FlowTables.{AreTrees}
 use Rattle.flow_tree.proofs.MadeTreeLemmas.{tree_put}
+use Rattle.flow_tree.proofs.LargeTreeLemmas.{not_zero}
 use Rattle.flow_tree.proofs.TableLevelLemmas.{level_of}
 use Rattle.flow_tree.proofs.function.make_loop.Goals as goal
 
@@ -40,4 +41,4 @@ returns-in-Err-clause-large c e n height rank h =
     (subst (λ ts. AreTrees n height ts) (sym c.as_slice.ensures.value) (c.requires.old n height rank h))
     (slice_get_read c.args.tables.now.levels.now _ c.args.number c.in-Some.rows.now refl c.in-Some.ensures.lookup.3.0
     c.in-Some.ensures.lookup.1)) in
-    (c.args.number, r.0, r.1, r.2)
+    (c.args.number, r.0, not_zero c.args.number c.requires.some, r.1, r.2)
