@@ -1,5 +1,6 @@
 pub mod LargeTreeLemmas
 pub mod LevelTaskLemmas
+pub mod LevelsOfLoopsLemmas
 pub mod LoopCellLemmas
 pub mod LoopLevelLemmas
 pub mod LoopTreeLemmas
