@@ -23,7 +23,7 @@ ghost use Rattle.graph_reduction.specs.Loops.{AreNested, IsIrreducible};
 ghost use Rattle.graph_reduction.specs.Reduction.{State, IsReduced};
 
 pub use edges::first_node;
-pub use nodes::{Nodes, number_at};
+pub use nodes::{Nodes, first_source, number_at};
 
 /// Where no cycle is left without a closing edge, loops are entered by their headers alone, lie one in another or
 /// apart, and an edge closes exactly where each walk from the entry to its source passes its target.

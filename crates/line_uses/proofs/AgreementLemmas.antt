@@ -8,7 +8,7 @@ use Rattle.persistence.specs.BlockMisses.{is_use}
 use Rattle.persistence.specs.Younger.{Code}
 use Rattle.persistence.proofs.ScopeLemmas.{never_both, one_scope}
 use Rattle.wsym_terms.specs.declared.trees.Use.{Use}
-use Rattle.line_uses.specs.declared.leaves.BlockUses.{BlockUses}
+use Rattle.wsym_terms.specs.declared.trees.BlockUses.{BlockUses}
 use Rattle.line_uses.specs.declared.leaves.LineUses.{LineUses}
 use Rattle.line_uses.specs.Leaves.{AreUsesOf, leaf_of}
 use Rattle.line_uses.specs.PointMaps.{PointMaps, code_of, depth_of, within}

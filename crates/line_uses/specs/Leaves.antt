@@ -3,7 +3,7 @@ use Rattle.std.specs.Prelude.{◌≡◌, ℕ, List, map, Option}
 use Rattle.line_uses.specs.PointMaps.{PointMaps, code_of}
 use Rattle.persistence.specs.Spots.{base_of_points, uses_of_points}
 use Rattle.line_uses.specs.Scopes.{AreScopesOf, cost_in, scope_in}
-use Rattle.line_uses.specs.declared.leaves.BlockUses.{BlockUses}
+use Rattle.wsym_terms.specs.declared.trees.BlockUses.{BlockUses}
 use Rattle.line_uses.specs.declared.leaves.LineUses.{LineUses}
 
 -- what stands of a block in its leaf

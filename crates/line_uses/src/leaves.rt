@@ -15,15 +15,7 @@ use crate::scopes::scopes_of;
 use crate::tables::PointTables;
 use sqlite_items::Items;
 use std::alloc::{AllocError, Global};
-use wsym_terms::Use;
-
-/// What stands of a block in its leaf: the cycles that it costs at most each time, with a miss for each use without a
-/// scope, and its uses with a scope, in the order of its points.
-#[derive(Drop)]
-pub struct BlockUses {
-    pub base: u128,
-    pub uses: Items<Use>,
-}
+use wsym_terms::{BlockUses, Use};
 
 /// The scope of each point that is a use with one, and the uses by block.
 #[derive(Drop)]

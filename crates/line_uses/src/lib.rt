@@ -19,5 +19,5 @@ mod searches;
 mod tables;
 
 pub use laws::{blocks_of_a_nest_are_a_function, uses_agree};
-pub use leaves::{BlockUses, LineUses, uses};
+pub use leaves::{LineUses, uses};
 pub use tables::PointTables;

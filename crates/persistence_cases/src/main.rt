@@ -8,9 +8,10 @@
 
 use graph_search::{SuccessorRows, add_to_row, empty_rows, is_bounded};
 use interval_loops::{LoopNest, loops};
-use line_uses::{BlockUses, PointTables, uses};
+use line_uses::{PointTables, uses};
 use sqlite_items::Items;
 use std::alloc::{AllocError, Global};
+use wsym_terms::BlockUses;
 
 /// The number that a word spells, or 0.
 fn number(word: &str) -> u32 {

@@ -14,7 +14,8 @@ use Rattle.wsym_formula.specs.declared.terms.Term.TheBlock.{the_family, member-T
 use Rattle.wsym_formula.specs.declared.terms.Term.TheFolds.{claims, map-Term}
 use Rattle.wsym_formula.specs.declared.terms.Term.TheVariants as t
 use Rattle.simplifier.specs.Normal.{all_descend, all_places, alone_alt, alone_sum, choices, choices_of, constant, constant_of, constants, flat, flattened, is_zero, kept_if, led_if, level_normal, normal, normal_alt, normal_sum, once_of, others, power_of, scaled_of, summands, summands_of, summed, sums_first, united, unions_first, unless_constant, with_constant, without_zero}
-use Rattle.simplifier.specs.Sizes.{level_nesting, level_nodes, most, nesting_of, nodes_of}
+use Rattle.wsym_terms.specs.TreeNesting.{most}
+use Rattle.simplifier.specs.Sizes.{level_nesting, level_nodes, nesting_of, nodes_of}
 use Rattle.simplifier.proofs.TreeSizes.{nesting_open, nodes_open}
 
 -- the nodes of some terms, and how deep the deepest of them nests

@@ -15,7 +15,8 @@ use Rattle.wsym_formula.specs.declared.terms.Term.{Term, fold-roll-Term, roll-Te
 use Rattle.wsym_formula.specs.declared.terms.Term.TheOpen.{Term-F}
 use Rattle.wsym_formula.specs.declared.terms.Term.TheFolds.{map-Term}
 use Rattle.wsym_formula.specs.declared.terms.Term.TheVariants as t
-use Rattle.simplifier.specs.Sizes.{level_depth, level_nesting, level_nodes, most, nesting_of, nodes_of, tree_nesting}
+use Rattle.wsym_terms.specs.TreeNesting.{level_depth, most, tree_nesting}
+use Rattle.simplifier.specs.Sizes.{level_nesting, level_nodes, nesting_of, nodes_of}
 
 pub nodes_open : (y : Term-F Term) (u : Term) → roll-Term y ≡ u → nodes_of u ≡ level_nodes (map-Term Term ℕ nodes_of y)
 nodes_open y u e = ap nodes_of (sym e) ∙ fold-roll-Term ℕ level_nodes y

@@ -1,16 +1,10 @@
--- How large trees and terms are.
-use Rattle.std.specs.Prelude.{ℕ, suc, max, List, [], ◌∷◌}
-use Rattle.wsym_terms.specs.declared.trees.Tree.{Tree, fold-Tree}
-use Rattle.wsym_terms.specs.declared.trees.Tree.TheOpen.{Tree-F}
+-- How large terms are.
+use Rattle.std.specs.Prelude.{ℕ, suc}
+use Rattle.wsym_terms.specs.TreeNesting.{most}
 use Rattle.wsym_formula.specs.declared.terms.Term.{Term, fold-Term}
 use Rattle.wsym_formula.specs.declared.terms.Term.TheOpen.{Term-F}
 use Rattle.wsym_formula.specs.declared.terms.Term.TheOpen.Term-F.{Const, Sum, Alt, Power, Once, Scaled}
 use Rattle.wsym_formula.specs.Values.{total}
-
--- the greatest of some numbers
-abbrev pub most : List ℕ → ℕ
-most [] = 0
-most (m ∷ ms) = max m (most ms)
 
 -- the nodes of a term, equal ones as often as they stand in it
 abbrev pub level_nodes : Term-F ℕ → ℕ
@@ -35,13 +29,3 @@ level_nesting (Scaled id body) = suc body
 
 abbrev pub nesting_of : Term → ℕ
 nesting_of = fold-Term ℕ level_nesting
-
--- how deep a tree nests; a leaf has 1
-abbrev pub level_depth : Tree-F ℕ → ℕ
-level_depth (Tree-F.Leaf block base uses) = 1
-level_depth (Tree-F.Seq members) = suc (most members)
-level_depth (Tree-F.Alt choices) = suc (most choices)
-level_depth (Tree-F.Loop id body exit) = suc (max body exit)
-
-abbrev pub tree_nesting : Tree → ℕ
-tree_nesting = fold-Tree ℕ level_depth

@@ -9,7 +9,8 @@ ghost use Rattle.wsym_formula.specs.Values.{bound_at, counts_of};
 ghost use Rattle.wsym_formula.specs.declared.terms.Term.{Term as TermValue};
 ghost use Rattle.simplifier.specs.Normal.{normal};
 ghost use Rattle.simplifier.specs.Simplified.{known_of};
-ghost use Rattle.simplifier.specs.Sizes.{nesting_of, nodes_of, tree_nesting};
+ghost use Rattle.wsym_terms.specs.TreeNesting.{tree_nesting};
+ghost use Rattle.simplifier.specs.Sizes.{nesting_of, nodes_of};
 
 /// A law of the normal form: it has the value of the term, for each number of executions and all bounds of loops
 /// that are those which were known.

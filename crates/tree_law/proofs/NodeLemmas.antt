@@ -306,7 +306,7 @@ module _ (l : Loops) (next : ℕ → ℕ → Bool) (within : ℕ → ℕ → Boo
       no_block : (p e : ℕ) → within 0 p ≡ true → within 0 e ≡ false → p ≢ e
       no_block p e i out same = (let a : within 0 p ≡ within 0 e = ap (within 0) same in absurd (cc))
 
-      rank_of_block : (p : ℕ) → within 0 p ≡ true → level_of p ≡ rank p + 1
+      pub rank_of_block : (p : ℕ) → within 0 p ≡ true → level_of p ≡ rank p + 1
       rank_of_block p i =
           ap (λ (t : Bool). if t then top else (if nat_eq p leave then top else (if nat_eq p (l.header 0) then 0 else rank p + 1)))
           (test_apart p close (no_block p close i ends.no_close))
@@ -314,7 +314,7 @@ module _ (l : Loops) (next : ℕ → ℕ → Bool) (within : ℕ → ℕ → Boo
           (test_apart p leave (no_block p leave i ends.no_leave))
           ∙ ap (λ (t : Bool). if t then 0 else rank p + 1) (test_apart p (l.header 0) (no_block p (l.header 0) i are.start))
 
-      rank_of_end : (q : ℕ) → (q ≡ close) ⊎ (q ≡ leave) → level_of q ≡ top
+      pub rank_of_end : (q : ℕ) → (q ≡ close) ⊎ (q ≡ leave) → level_of q ≡ top
       rank_of_end q (inl e) = ap (λ (t : Bool). if t then top else (if nat_eq q leave then top else
           (if nat_eq q (l.header 0) then 0 else rank q + 1))) (test_same q close e)
       rank_of_end q (inr e) = by_test (nat_eq q close) (test_same q leave e)
@@ -324,7 +324,7 @@ module _ (l : Loops) (next : ℕ → ℕ → Bool) (within : ℕ → ℕ → Boo
           by_test true f = refl
           by_test false f = ap (λ (t : Bool). if t then top else (if nat_eq q (l.header 0) then 0 else rank q + 1)) f
 
-      rank_of_start : level_of (l.header 0) ≡ 0
+      pub rank_of_start : level_of (l.header 0) ≡ 0
       rank_of_start =
           ap (λ (t : Bool). if t then top else (if nat_eq (l.header 0) leave then top else
           (if nat_eq (l.header 0) (l.header 0) then 0 else rank (l.header 0) + 1))) (test_apart (l.header 0) close ends.start_close)

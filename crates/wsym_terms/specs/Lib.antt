@@ -3,4 +3,5 @@ pub mod Costs
 pub mod Extents
 pub mod LineUses
 pub mod SmallTrees
+pub mod TreeNesting
 pub mod Trees

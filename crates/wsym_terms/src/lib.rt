@@ -22,4 +22,4 @@ pub use bounds::{Atom, Bound, Coef, ParamRange};
 pub use costs::Cost;
 pub use laws::small_trees_have_their_values;
 pub use names::Name;
-pub use trees::{Tree, Use, tree_value_of_none, tree_value_rises, tree_value_shares};
+pub use trees::{BlockUses, Tree, Use, tree_value_of_none, tree_value_rises, tree_value_shares};

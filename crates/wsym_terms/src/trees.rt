@@ -14,6 +14,14 @@ pub struct Use {
     pub scope: u32,
 }
 
+/// What stands of a block in its leaf: the cycles that it costs at most each time, with a miss for each use without a
+/// scope, and its uses with a scope, in the order of its points.
+#[derive(Drop)]
+pub struct BlockUses {
+    pub base: u128,
+    pub uses: Items<Use>,
+}
+
 /// The control-flow tree of a function.
 #[derive(Drop)]
 pub enum Tree {

@@ -1,0 +1,13 @@
+pub mod AddedWayLemmas
+pub mod DepthLemmas
+pub mod FinishedPlanLemmas
+pub mod LeastNodeLemmas
+pub mod LevelPlanLemmas
+pub mod LimitLemmas
+pub mod LinkedLevelLemmas
+pub mod MassLemmas
+pub mod PlanStepLemmas
+pub mod StackLemmas
+pub mod StageLemmas
+pub mod StartLemmas
+pub mod WeightLemmas

@@ -1,0 +1,6 @@
+pub mod AddedWays
+pub mod PlanSteps
+pub mod Plans
+pub mod Stages
+pub mod TreeDepths
+pub mod Weights

@@ -1,0 +1,11 @@
+pub mod LargeTreeLemmas
+pub mod LevelTaskLemmas
+pub mod LevelsOfLoopsLemmas
+pub mod LoopCellLemmas
+pub mod LoopLevelLemmas
+pub mod LoopTreeLemmas
+pub mod MadeTreeLemmas
+pub mod NodeCellLemmas
+pub mod PlannedLevelLemmas
+pub mod TableLevelLemmas
+pub mod WholeTreeLemmas

@@ -1,0 +1,4 @@
+pub mod Descriptions
+pub mod FlowTables
+pub mod LevelNumbers
+pub mod LevelTasks

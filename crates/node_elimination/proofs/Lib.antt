@@ -1,0 +1,11 @@
+pub mod CellChangeLemmas
+pub mod CellStepLemmas
+pub mod FinishedLevelLemmas
+pub mod GainLemmas
+pub mod JoinedWayLemmas
+pub mod LevelStartLemmas
+pub mod NextNodeLemmas
+pub mod NodeEdgeLemmas
+pub mod ReachedStageLemmas
+pub mod StageStateLemmas
+pub mod TakenNodeLemmas
