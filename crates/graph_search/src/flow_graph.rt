@@ -67,6 +67,13 @@ impl SuccessorRows {
             returns,
         }
     }
+
+    /// The rows of successors.
+    pub fn into_rows(self) -> Items<Items<u32>>
+        ensures { result ≡ self.rows }
+    {
+        self.rows
+    }
 }
 
 impl FlowGraph for SuccessorRows {
