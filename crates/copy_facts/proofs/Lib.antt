@@ -1,3 +1,4 @@
 pub mod EntryLemmas
 pub mod JoinedLemmas
+pub mod MergeLemmas
 pub mod StepLemmas

@@ -3,12 +3,14 @@
 
 mod joining;
 mod lookup;
+mod merging;
 mod sites;
 mod stepping;
 mod tables;
 
 pub use joining::join_points;
 pub use lookup::{find, put};
+pub use merging::meet;
 pub use sites::Site;
-pub use stepping::offset_of;
+pub use stepping::{offset_of, step_point};
 pub use tables::{PointFacts, WordFacts};
