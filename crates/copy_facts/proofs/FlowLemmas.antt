@@ -144,6 +144,15 @@ formed_stepped stack site false o m f = record {
   marks = λ k. skipped_marked (all_above stack (m.cell (Register 13)) k) (m.marked k) k (stack_words stack) (f.marks k);
 }
 
+pub formed_in : (stack : ℕ) (site : Option Site) (done : Bool) (o : Option ℤ) (m : AbstractState) → IsFormed (stack_locations stack) (stack_words stack) m
+    → IsFormed (stack_locations stack) (stack_words stack) (transferred stack (step_in stack site done o) m)
+formed_in stack None done o m f = record {
+  ordered = λ p. f.ordered p;
+  cells = λ p. f.cells p;
+  marks = λ k. skipped_marked (all_above stack (m.cell (Register 13)) k) (m.marked k) k (stack_words stack) (f.marks k);
+}
+formed_in stack (Some site) done o m f = formed_stepped stack site done o m f
+
 joined_none : (stack : ℕ) (c d : Option Range) (p : Location) (ls : List Location) → (c ≡ None) ⊎ Member p ls → (joined_cell stack c d ≡ None) ⊎ Member p ls
 joined_none stack c d p ls (inl e) = inl (ap (λ x. joined_cell stack x d) e)
 joined_none stack c d p ls (inr m) = inr m

@@ -4,6 +4,7 @@
 mod joining;
 mod lookup;
 mod merging;
+mod points;
 mod sites;
 mod stepping;
 mod tables;
@@ -11,6 +12,7 @@ mod tables;
 pub use joining::join_points;
 pub use lookup::{find, put};
 pub use merging::meet;
+pub use points::PointTable;
 pub use sites::Site;
 pub use stepping::{offset_of, step_point};
 pub use tables::{PointFacts, WordFacts};
