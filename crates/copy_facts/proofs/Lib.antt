@@ -3,4 +3,5 @@ pub mod FlowLemmas
 pub mod HistoryLemmas
 pub mod JoinedLemmas
 pub mod MergeLemmas
+pub mod StartLemmas
 pub mod StepLemmas
