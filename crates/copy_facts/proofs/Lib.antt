@@ -1,3 +1,7 @@
 pub mod EntryLemmas
+pub mod FlowLemmas
+pub mod HistoryLemmas
 pub mod JoinedLemmas
+pub mod MergeLemmas
+pub mod StartLemmas
 pub mod StepLemmas
