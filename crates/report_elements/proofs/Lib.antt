@@ -1,0 +1,11 @@
+pub mod AddressLaws
+pub mod BracketLaws
+pub mod ConstantLaws
+pub mod Cutting
+pub mod DigitLaws
+pub mod FormulaLaws
+pub mod NodeLaws
+pub mod Opening
+pub mod SignedLaws
+pub mod Sizing
+pub mod TreeLaws

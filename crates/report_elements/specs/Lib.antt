@@ -1,0 +1,11 @@
+pub mod ConstantReading
+pub mod Constants
+pub mod Elements
+pub mod FormulaReading
+pub mod Hexadecimal
+pub mod Names
+pub mod NodeTexts
+pub mod Numbers
+pub mod Signed
+pub mod TreeReading
+pub mod Words

@@ -1,0 +1,2 @@
+pub mod CollectedLaws
+pub mod WriteLaws
