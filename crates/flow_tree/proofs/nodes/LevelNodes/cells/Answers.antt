@@ -21,6 +21,7 @@ loop-end-preserved c =
     let long = c.loop-end.invariant.long in
     record {
       long = long_enough c.loop-end.made.items c.push-in-loop-end.new.self.items _ s.count c.in_ok-push-2.ensures.items long;
-      cells = cells_kept (λ u. cell_had s.trees.now (slice_get s.blocks.now u) (child_by s.count s.nest.now s.level u)) c.loop-end.made.items
+      cells = cells_kept (λ u. cell_had s.trees.now (slice_get s.blocks.now u) (child_by s.count s.nest.now s.level u))
+          c.loop-end.made.items
           c.push-in-loop-end.new.self.items _ s.count c.in_ok-push-2.ensures.items long c.loop-end.invariant.cells;
     }
