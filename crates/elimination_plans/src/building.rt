@@ -3,7 +3,8 @@ ghost use Rattle.std.specs.Prelude.{◌≡◌, ◌≤◌, ◌<◌, ◌+◌, max,
 ghost use Rattle.wsym_terms.specs.declared.trees.Tree.{Tree as TreeValue};
 ghost use Rattle.wsym_terms.specs.declared.trees.Tree.TheVariants.{Seq};
 ghost use Rattle.tree_law.specs.Ways.{members as members_of};
-ghost use Rattle.elimination_plans.specs.Plans.{via, node_of_plan, stacked, Extends, Unrolls, Falls, effort, efforts, high};
+ghost use Rattle.elimination_plans.specs.Plans.{via, node_of_plan, stacked, Extends, Unrolls, Falls, effort, efforts};
+ghost use Rattle.elimination_plans.specs.Plans.{high};
 ghost use Rattle.elimination_plans.specs.Plans.{top};
 ghost use Rattle.elimination_plans.specs.Stages.{Task, Stage, IsDone, EndsApart, tree_members};
 
@@ -103,7 +104,8 @@ fn unfold<N: Nodes>(
     ensures made { OnOk result ((tree : ℕ → TreeValue) (F : ℕ → ℕ → List (List TreeValue))
         → Extends (N.tree nodes.now) tree
         → Unrolls tree (node_of_plan plan.now) (via plan.now) F
-        → made.new ++ stacked tree F stack.new.items ≡ made.old ++ members_of (F from to) ++ stacked tree F stack.old.items) }
+        → made.new ++ stacked tree F stack.new.items ≡ made.old ++ members_of (F from to) ++ stacked tree F
+        stack.old.items) }
 {
     let ways = plan.ways_of(from, to);
     if ways.len() > 1 {

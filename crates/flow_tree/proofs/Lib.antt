@@ -6,6 +6,7 @@ pub mod LoopLevelLemmas
 pub mod LoopTreeLemmas
 pub mod MadeTreeLemmas
 pub mod NodeCellLemmas
+pub mod OneBlockExample
 pub mod PlannedLevelLemmas
 pub mod TableLevelLemmas
 pub mod WholeTreeLemmas

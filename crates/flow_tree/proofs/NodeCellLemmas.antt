@@ -1,5 +1,6 @@
 -- The numbers of the nodes of a level, as they are collected.
-use Rattle.std.proofs.Common.{◌≡◌, ℕ, zero, suc, ◌+◌, ◌<◌, ◌⊎◌, inl, inr, List, [], ◌∷◌, ◌++◌, length, refl, sym, ap, subst, ◌∙◌, arith}
+use Rattle.std.proofs.Common.{◌≡◌, ℕ, zero, suc, ◌+◌, ◌<◌, ◌≤◌, ◌⊎◌, inl, inr, List, [], ◌∷◌, ◌++◌, length, refl, sym, ap, subst, ◌∙◌}
+use Rattle.std.proofs.Common.{arith}
 use Rattle.std.specs.Prelude.{Option, Some}
 use Rattle.node_elimination.specs.declared.cells.Cell.{Cell}
 use Rattle.node_elimination.specs.LevelStates.{cell_at}
@@ -41,3 +42,11 @@ cells_more had xs ys c n e l old new u h = by_place (below u n h)
     by_place (inr f) =
         let at : cell_at ys u ≡ c = ap (cell_at ys) (f ∙ sym l) ∙ ap (λ zs. cell_at zs (length xs)) e ∙ last_cell xs c in
         ap had f ∙ new ∙ ap Some (sym at)
+
+pub cells_kept : (had : ℕ → Option Cell) (xs ys : List Cell) (c : Cell) (n : ℕ) → ys ≡ xs ++ c ∷ [] → n ≤ length xs
+    → ((u : ℕ) → u < n → had u ≡ Some (cell_at xs u)) → (u : ℕ) → u < n → had u ≡ Some (cell_at ys u)
+cells_kept had xs ys c n e l old u h =
+    old u h ∙ ap Some (sym (ap (λ zs. cell_at zs u) e ∙ first_cells xs c u (omega (arith, h, l))))
+
+pub long_enough : (xs ys : List Cell) (c : Cell) (n : ℕ) → ys ≡ xs ++ c ∷ [] → n ≤ length xs → n ≤ length ys
+long_enough xs ys c n e l = (let r = longer xs ys c (length xs) e refl in omega (arith, r, l))

@@ -16,8 +16,8 @@ pub fn levels_are_tasks()
         → IsTask (task_of n height c t) (rank c) }
 {}
 
-/// A law: where the levels are those of the loops of a flow graph, which the law of the tree speaks of, each of them can
-/// be taken out by numbers between its header and its ends, and loops lie lower than those round them.
+/// A law: where the levels are those of the loops of a flow graph, of which the law of the tree speaks, each of them
+/// can be taken out by numbers between its header and its ends, and loops lie lower than those round them.
 pub fn levels_of_loops_are_tasks()
     ensures { (l : Loops) (next within : ℕ → ℕ → Bool) (entry : ℕ) (at height : ℕ → ℕ)
         → AreLoops l next within entry at height → (rank : ℕ → ℕ) → IsOrder l next within entry rank

@@ -72,7 +72,7 @@ impl<'a> LevelNodes<'a> {
         }
     }
 
-    /// The numbers of the trees of all nodes.
+    /// The numbers of the trees of all nodes, and places for the start and the two ends, whose numbers come next.
     pub fn cells(&self, alloc: Global) -> Result<Vec<Cell>, AllocError>
         ensures { IfOk result (λ v. (u : ℕ) → u < self.now.count → cell_had self.now.trees.now
             (slice_get self.now.blocks.now u)
@@ -81,6 +81,14 @@ impl<'a> LevelNodes<'a> {
         let mut made = Vec::new(alloc);
         for node in 0..self.count {
             made.push(self.cell_of(node)?)?;
+        }
+        for _end in 0..3u32 {
+            made.push(Cell {
+                count: 0,
+                leaves: 0,
+                size: 0,
+                depth: 0,
+            })?;
         }
         Ok(made)
     }

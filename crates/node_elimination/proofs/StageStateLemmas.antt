@@ -123,8 +123,8 @@ module _ (k : Task) (rank : ℕ → ℕ) (s : Stage) (h : IsTask k rank) (reache
         by_tests false e true f = ap some (here.empty x v f).1
         by_tests false e false f = sym (here.numbered x v f (here.here v v_left))
 
-    behind_is : (y : ℕ) → is_some (cells_at k s v y) ≡ (if and_gone v (gone s) y then false else some (s.plan v y))
-    behind_is y = some_is (ways_at k s v y) ∙ by_tests (nat_eq y v) refl (gone s y) refl
+    after_is : (y : ℕ) → is_some (cells_at k s v y) ≡ (if and_gone v (gone s) y then false else some (s.plan v y))
+    after_is y = some_is (ways_at k s v y) ∙ by_tests (nat_eq y v) refl (gone s y) refl
       where
         by_tests : (b : Bool) → nat_eq y v ≡ b → (c : Bool) → gone s y ≡ c
             → some (ways_at k s v y) ≡ (if b || c then false else some (s.plan v y))
@@ -138,7 +138,7 @@ module _ (k : Task) (rank : ℕ → ℕ) (s : Stage) (h : IsTask k rank) (reache
     plan_is P places same number x y =
         ap2 (λ (l : List ℕ) (n : ℕ). if is_some (cells_at k s x v) && is_some (cells_at k s v y) then l ++ suc n ∷ [] else l) (same x y)
         number
-        ∙ ap2 (λ (b c : Bool). if b && c then s.plan x y ++ suc (length s.taken) ∷ [] else s.plan x y) (before_is x) (behind_is y)
+        ∙ ap2 (λ (b c : Bool). if b && c then s.plan x y ++ suc (length s.taken) ∷ [] else s.plan x y) (before_is x) (after_is y)
         ∙ not_and (and_gone v (gone s) x) (and_gone v (gone s) y) (some (s.plan x v)) (some (s.plan v y))
         (s.plan x y ++ suc (length s.taken) ∷ []) (s.plan x y)
         ∙ ap (λ l. if and_gone v (gone s) x || and_gone v (gone s) y then s.plan x y else l)

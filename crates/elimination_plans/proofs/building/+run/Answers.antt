@@ -27,7 +27,8 @@ choices-loop-entry-preserved g t c =
       made = λ tree F x u. next_choices tree F (node_of_plan plan) c.args.from c.args.to
           c.ways_of-entry-items.result.now c.loop-entry.entry-index c.loop-entry.made c.push.new.self c.spread.new.stack.items
           c.in_ok-run.field-0
-          (c.in_ok-run.ensures tree F x u) from (take_more c.ways_of-entry-items.result.now c.loop-entry.entry-index 0 c.loop-entry-test.true)
+          (c.in_ok-run.ensures tree F x u) from (take_more c.ways_of-entry-items.result.now c.loop-entry.entry-index 0
+          c.loop-entry-test.true)
           (c.loop-entry.invariant.made tree F x u) c.in_ok-push.ensures.ok;
     }
 

@@ -17,7 +17,8 @@ abbrev pub invariant-choices-loop-entry : goal.invariant-choices-loop-entry
 invariant-choices-loop-entry g l =
     record {
       items : l.entry-items ≡ via l.fn.plan l.fn.from l.fn.to;
-      made : (tree : ℕ → TreeValue) (F : ℕ → ℕ → List (List TreeValue)) → Extends (g.N.Nodes.tree l.fn.nodes) tree → Unrolls tree (node_of_plan l.fn.plan) (via l.fn.plan) F
+      made : (tree : ℕ → TreeValue) (F : ℕ → ℕ → List (List TreeValue)) → Extends (g.N.Nodes.tree l.fn.nodes) tree
+          → Unrolls tree (node_of_plan l.fn.plan) (via l.fn.plan) F
           → l.made ≡ map Seq (map (way_of tree (node_of_plan l.fn.plan) F l.fn.from l.fn.to)
           (take l.entry-index l.entry-items));
     }
@@ -25,7 +26,8 @@ invariant-choices-loop-entry g l =
 abbrev pub invariant-run-loop-piece : goal.invariant-run-loop-piece
 invariant-run-loop-piece g l =
     record {
-      made : (tree : ℕ → TreeValue) (F : ℕ → ℕ → List (List TreeValue)) → Extends (g.N.Nodes.tree l.fn.nodes) tree → Unrolls tree (node_of_plan l.fn.plan) (via l.fn.plan) F
+      made : (tree : ℕ → TreeValue) (F : ℕ → ℕ → List (List TreeValue)) → Extends (g.N.Nodes.tree l.fn.nodes) tree
+          → Unrolls tree (node_of_plan l.fn.plan) (via l.fn.plan) F
           → l.made ++ stacked tree F l.stack.items ≡ stacked tree F l.fn.stack.items;
       low : high (via l.fn.plan) l.stack.items ≤ high (via l.fn.plan) l.fn.stack.items;
     }
