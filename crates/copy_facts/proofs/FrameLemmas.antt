@@ -1,8 +1,8 @@
 -- What the search finds of numbers, said of points and their histories.
-use Rattle.std.proofs.Common.{◌≡◌, refl, sym, ap, ◌∙◌, subst, ℕ, zero, suc, ◌+◌, ◌<◌, ◌≤◌, ◌⊎◌, inl, inr, Bool, true, false, ℤ, List, [], ◌∷◌, length, get_or, arith}
-use Rattle.std.specs.Prelude.{◌≢◌, ◌↔◌, Option, Some, None, IfSome, IsSomeAnd, is_some, option_and_then, slice_get}
+use Rattle.std.proofs.Common.{◌≡◌, refl, sym, ap, ◌∙◌, subst, ℕ, zero, suc, ◌<◌, ◌⊎◌, true, ℤ, List, [], ◌∷◌, length, get_or, arith}
+use Rattle.std.specs.Prelude.{◌≢◌, Option, Some, None, option_and_then, slice_get}
 use Rattle.std.proofs.lemmas.Bool.{false≢true}
-use Rattle.std.proofs.lemmas.Option.{same_Some, none-some}
+use Rattle.std.proofs.lemmas.Option.{same_Some}
 use Rattle.elf32_image.specs.Parts.{ImageValue}
 use Rattle.arm_isa.specs.declared.instruction.Insn.{Insn}
 use Rattle.control_flow.specs.Instructions.{instruction_at}
@@ -11,16 +11,15 @@ use Rattle.control_flow.specs.Routes.{Taken}
 use Rattle.path_facts.specs.Facts.{Facts, offset_of}
 use Rattle.path_facts.specs.Histories.{IsHistoryOf, facts_of}
 use Rattle.path_facts.specs.StackUse.{IsStackLost, IsStackOver, accesses_by_sp, lowest_byte}
-use Rattle.fact_lattice.specs.Cells.{AbstractState, one_offset}
+use Rattle.fact_lattice.specs.Cells.{AbstractState}
 use Rattle.fact_lattice.specs.Flows.{Flow, IsHistoryIn, IsLostAt, IsOverAt, IsSolved, facts_in}
 use Rattle.fact_lattice.specs.declared.solving.Stop.{Stop}
 use Rattle.fact_lattice.specs.declared.solving.Stop.TheVariants as stop
 use Rattle.fact_lattice.specs.Searches.{IsStopAt}
 use Rattle.fact_lattice.proofs.SolvedLemmas.{none_lost}
 use Rattle.copy_facts.specs.declared.sites.Site.{Site}
-use Rattle.copy_facts.specs.Frames.{AreFramePoints, AreSites, IsSite, NoneLost, lowest_in}
+use Rattle.copy_facts.specs.Frames.{AreFramePoints, NoneLost, lowest_in}
 use Rattle.copy_facts.specs.Points.{accesses_in, flow_of}
-use Rattle.copy_facts.specs.Searching.{IsInside}
 use Rattle.copy_facts.proofs.HistoryLemmas.{to_numbers, to_points}
 
 pub flow_same : (s t : ℕ) (x y : ℕ) (a b : List Site) → s ≡ t → x ≡ y → a ≡ b → flow_of s x a ≡ flow_of t y b

@@ -16,7 +16,7 @@ use std::alloc::Global;
 pub enum FrameRefusal {
     /// Memory was refused.
     Memory,
-    /// R13 isn't known at an access by it, or isn't the same on all paths: the address of the access.
+    /// The access by r13 at an address has no one offset: r13 isn't known there, or isn't the same on all paths.
     Lost(u32),
     /// An access goes beyond the stack: the least such address, and there the least offset of its lowest byte.
     Over(u32, i64),

@@ -69,11 +69,13 @@ fn number_of_ways(targets: &Targets) -> usize
     }
 }
 
-
 impl<'a> Merging for PointTable<'a> {
     ghost flow = { λ s. flow_of s.stack s.start s.sites.now };
+
     ghost map = { λ s. map_of s.facts.items };
+
     ghost weight = { λ s. weight_of_points s.stack s.facts.items };
+
     ghost sound = { λ s. ArePoints s.stack s.sites.now s.facts.items };
 
     fn is_placed(&self, point: u32) -> bool {

@@ -1,8 +1,8 @@
-use Rattle.std.proofs.Common.{rules, subst, sym, ◌∙◌}
+use Rattle.std.proofs.Common.{subst}
 use Rattle.fact_lattice.specs.Flows.{Flow, IsLostAt}
 use Rattle.copy_facts.specs.Points.{flow_of}
 use Rattle.copy_facts.proofs.FlowLemmas.{regular}
-use Rattle.copy_facts.proofs.FrameLemmas.{flow_same, lost_point, lost_refused, stop_lost}
+use Rattle.copy_facts.proofs.FrameLemmas.{flow_same, lost_refused, stop_lost}
 use Rattle.copy_facts.proofs.frames.solved.Goals as goal
 
 pub solve-requires-clause-regular : goal.solve-requires-clause-regular

@@ -1,4 +1,3 @@
-use Rattle.std.proofs.Common.{rules}
 use Rattle.copy_facts.specs.Tables.{state_of_point}
 use Rattle.copy_facts.proofs.MergeLemmas.{known_below, next_is, table_known, there_below}
 use Rattle.copy_facts.proofs.points.PointTable.next.Goals as goal

@@ -1,4 +1,4 @@
-use Rattle.std.proofs.Common.{rules, length, refl}
+use Rattle.std.proofs.Common.{length, refl}
 use Rattle.copy_facts.proofs.EntryLemmas.{got}
 use Rattle.copy_facts.proofs.MergeLemmas.{no_way}
 use Rattle.copy_facts.proofs.points.PointTable.way.Goals as goal

@@ -1,7 +1,7 @@
 use Rattle.std.proofs.Common.{rules, true, false, subst}
 use Rattle.copy_facts.specs.Searching.{IsMet}
 use Rattle.copy_facts.specs.Tables.{state_of_point}
-use Rattle.copy_facts.proofs.MergeLemmas.{below_other, met_less, met_points, next_formed, went_met}
+use Rattle.copy_facts.proofs.MergeLemmas.{met_less, met_points, next_formed, went_met}
 use Rattle.copy_facts.proofs.points.PointTableMerging.merge.Goals as goal
 
 pub returns-then-changed-clause-sound : goal.returns-then-changed-clause-sound
