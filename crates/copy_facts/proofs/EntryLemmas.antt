@@ -1,7 +1,7 @@
 -- Words in ascending lists: what is found there, and what writing one down at the end changes.
-use Rattle.std.proofs.Common.{◌≡◌, refl, sym, ap, ◌∙◌, subst, ℕ, zero, suc, ◌+◌, ◌<◌, ◌≤◌, ◌-◌, ◌/◌, ◌⊎◌, inl, inr, Bool, true, false, List, [], ◌∷◌, ◌++◌, length, get_or, arith}
-use Rattle.std.specs.Prelude.{◌≢◌, ◌==◌, ◌||◌, ◌^◌, if◌then◌else◌, Option, Some, None, is_some, slice_get}
-use Rattle.std.proofs.lemmas.Bool.{cases_eq, cases_Bool, or_parts, cond-true, cond-false, eq-eqb, ne_eqb, false≢true, true≢false}
+use Rattle.std.proofs.Common.{◌≡◌, refl, sym, ap, ◌∙◌, subst, ℕ, zero, suc, ◌+◌, ◌<◌, ◌≤◌, ◌-◌, ◌/◌, ◌⊎◌, inl, inr, false, List, [], ◌∷◌, ◌++◌, length, get_or, arith}
+use Rattle.std.specs.Prelude.{◌≢◌, ◌==◌, ◌||◌, Option, Some, None, is_some, slice_get}
+use Rattle.std.proofs.lemmas.Bool.{cases_eq, cases_Bool, or_parts, cond-true, cond-false, eq-eqb, ne_eqb, true≢false}
 use Rattle.std.proofs.lemmas.Option.{same_Some, none-some, slice_get-get_or}
 use Rattle.fact_lattice.specs.declared.cells.Range.{Range}
 use Rattle.copy_facts.specs.declared.tables.WordFacts.{WordFacts}
@@ -117,15 +117,15 @@ pub missing_here : (b : ℕ) (ws : List WordFacts) (at k : ℕ) (w : WordFacts) 
     → ((i : ℕ) (v : WordFacts) → at ≤ i → slice_get ws i ≡ Some v → k ≤ v.word) → slice_get ws at ≡ Some w → w.word ≢ k → nothing_of k ≡ entry_in ws k
 missing_here b ws at k w r before after e other =
     sym (not_found ws k (λ j v f same.
-      let here = after at w (omega arith) e in
-      elim (cases_lt j at) as (λ _. ⊥) [
-        | inl l ↦ let h = before j v l f in omega (arith, h, same)
-        | inr g ↦
-            elim (cases_eq j at) as (λ _. ⊥) [
-              | inl is ↦ other (ap (λ x. x.word) (same_Some w v (sym e ∙ (ap (slice_get ws) (sym is) ∙ f))) ∙ same)
-              | inr n ↦ let h = ascends 0 b ws r at j w v (past j at g n) e f in omega (arith, h, here, same)
-            ]
-      ])) where
+    let here = after at w (omega arith) e in
+    elim (cases_lt j at) as (λ _. ⊥) [
+      | inl l ↦ let h = before j v l f in omega (arith, h, same)
+      | inr g ↦
+          elim (cases_eq j at) as (λ _. ⊥) [
+            | inl is ↦ other (ap (λ x. x.word) (same_Some w v (sym e ∙ (ap (slice_get ws) (sym is) ∙ f))) ∙ same)
+            | inr n ↦ let h = ascends 0 b ws r at j w v (past j at g n) e f in omega (arith, h, here, same)
+          ]
+    ])) where
       cases_lt : (j at : ℕ) → (j < at) ⊎ (at ≤ j)
       cases_lt j at = grind arith
 
@@ -136,10 +136,10 @@ pub missing_all : (ws : List WordFacts) (at k : ℕ) → ((i : ℕ) (v : WordFac
     → nothing_of k ≡ entry_in ws k
 missing_all ws at k before e =
     sym (not_found ws k (λ j v f same.
-      elim (cases_lt j at) as (λ _. ⊥) [
-        | inl l ↦ let h = before j v l f in omega (arith, h, same)
-        | inr g ↦ none-some v (sym (none_past ws at j e g) ∙ f)
-      ])) where
+    elim (cases_lt j at) as (λ _. ⊥) [
+      | inl l ↦ let h = before j v l f in omega (arith, h, same)
+      | inr g ↦ none-some v (sym (none_past ws at j e g) ∙ f)
+    ])) where
       cases_lt : (j at : ℕ) → (j < at) ⊎ (at ≤ j)
       cases_lt j at = grind arith
 
@@ -217,10 +217,10 @@ written f b ws e t l none is =
       | inr away ↦
           subst (AreEntriesTo f (suc e.word)) (sym (cond-false (is_some e.cell || e.kept) (ws ++ e ∷ []) ws away))
           (wider f b (suc e.word) ws t (omega (arith, l)) (λ k from below.
-            elim (cases_eq e.word k) as (λ _. f k ≡ nothing_of k) [
-              | inl s ↦ ap f (sym s) ∙ (sym is ∙ (empty_entry e away ∙ ap nothing_of s))
-              | inr n ↦ none k from (less k e.word below n)
-            ]))
+          elim (cases_eq e.word k) as (λ _. f k ≡ nothing_of k) [
+            | inl s ↦ ap f (sym s) ∙ (sym is ∙ (empty_entry e away ∙ ap nothing_of s))
+            | inr n ↦ none k from (less k e.word below n)
+          ]))
     ] where
       less : (k n : ℕ) → k < suc n → n ≢ k → k < n
       less k n l o = grind arith

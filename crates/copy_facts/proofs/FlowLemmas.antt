@@ -1,19 +1,18 @@
 -- The flow of a function's points is regular, and what is known of them stays within the locations of the stack.
-use Rattle.std.proofs.Common.{◌≡◌, refl, sym, ap, ◌∙◌, subst, ℕ, zero, suc, ◌+◌, ◌<◌, ◌≤◌, ◌*◌, ◌/◌, ◌⊎◌, inl, inr, Bool, true, false, ℤ, ◌≤ℤ◌, List, [], ◌∷◌, length, arith}
-use Rattle.std.specs.Prelude.{◌&&◌, ◌==◌, nat_le, nat_lt, pos, slice_get, if◌then◌else◌, Option, Some, None, IfSome}
+use Rattle.std.proofs.Common.{◌≡◌, refl, ap, ℕ, zero, suc, ◌<◌, ◌≤◌, ◌*◌, ◌/◌, ◌⊎◌, inl, inr, Bool, true, false, ℤ, ◌≤ℤ◌, List, arith}
+use Rattle.std.specs.Prelude.{◌&&◌, nat_le, nat_lt, pos, slice_get, if◌then◌else◌, Option, Some, None, IfSome}
 use Rattle.std.proofs.lemmas.Bool.{and_left, and_right, cases_Bool, cases_eq, cond-false}
 use Rattle.std.proofs.lemmas.Bool.Decides.{nat_tests}
 use Rattle.std.proofs.lemmas.Int.{ints}
 use Rattle.path_facts.specs.declared.origin.Origin.TheVariants as origin
-use Rattle.path_facts.specs.Facts.{Fact, Facts, Location, Source, is_signed_word}
+use Rattle.path_facts.specs.Facts.{Location, Source, is_signed_word}
 use Rattle.path_facts.specs.Facts.Location.{Register, StackWord}
 use Rattle.path_facts.specs.Facts.Source.{Nothing, Constant, Sum, Copy, IfMarked}
-use Rattle.path_facts.specs.Histories.{start_facts, start_fact}
+use Rattle.path_facts.specs.Histories.{start_facts}
 use Rattle.path_facts.specs.Sources.{is_tracked, mark_of, source_of}
-use Rattle.path_facts.specs.StackUse.{accesses_by_sp}
 use Rattle.point_steps.proofs.AccessLemmas.{marks_even, marks_rise, sources_even}
 use Rattle.fact_lattice.specs.declared.cells.Range.{Range}
-use Rattle.fact_lattice.specs.Cells.{AbstractState, Step, all_above, cell_of, joined, joined_cell, only, only_fact, state_of, transferred}
+use Rattle.fact_lattice.specs.Cells.{AbstractState, all_above, cell_of, joined, joined_cell, only, only_fact, state_of, transferred}
 use Rattle.fact_lattice.specs.Flows.{IsRegular}
 use Rattle.fact_lattice.specs.Weights.{IsFormed, Member}
 use Rattle.fact_lattice.proofs.WeightLemmas.{join_ordered, shift_ordered}

@@ -1,18 +1,16 @@
 -- Histories of points and histories of their numbers are the same, with the same facts.
-use Rattle.std.proofs.Common.{◌≡◌, refl, sym, ap, ◌∙◌, subst, ℕ, zero, suc, ◌+◌, ◌<◌, ◌≤◌, ◌⊎◌, inl, inr, Bool, true, false, ℤ, List, [], ◌∷◌, ◌++◌, length, get_or, arith}
-use Rattle.std.specs.Prelude.{◌≢◌, ◌==◌, ◌&&◌, if◌then◌else◌, map, Contains, Option, Some, None, IfSome, slice_get}
+use Rattle.std.proofs.Common.{◌≡◌, refl, sym, ap, ◌∙◌, subst, ℕ, zero, suc, ◌<◌, ◌≤◌, inl, inr, Bool, true, false, List, [], ◌∷◌, length, get_or, arith}
+use Rattle.std.specs.Prelude.{◌≢◌, ◌==◌, map, Contains, Option, Some, None, IfSome, slice_get}
 use Rattle.std.proofs.lemmas.Bool.{cases_eq, cond-false, cond-true, eq-eqb, false≢true, ne_eqb}
 use Rattle.std.proofs.lemmas.List.Elements.{Contains-append_cases, Contains-append_left, Contains-append_right}
-use Rattle.std.proofs.lemmas.Option.{same_Some, none-some, slice_get-get_or}
+use Rattle.std.proofs.lemmas.Option.{same_Some, none-some}
 use Rattle.elf32_image.specs.Parts.{ImageValue}
-use Rattle.arm_isa.specs.declared.instruction.Insn.{Insn}
 use Rattle.control_flow.specs.Instructions.{instruction_at}
 use Rattle.control_flow.specs.Points.{Point, entry_point}
 use Rattle.control_flow.specs.Routes.{Place, Taken, Way}
 use Rattle.control_flow.specs.Routes.Place.{At, Exit}
 use Rattle.control_flow.specs.Ways.{ways_from}
-use Rattle.point_tables.specs.declared.targets.Targets.{Targets}
-use Rattle.point_tables.specs.Targets.{AreTargets, number_place, numbered_way, numbered_ways, step_in as steps_in, target_numbers, targets_of}
+use Rattle.point_tables.specs.Targets.{number_place, numbered_way, numbered_ways}
 use Rattle.path_facts.specs.Facts.{Facts, offset_of}
 use Rattle.path_facts.specs.Histories.{IsHistoryOf, facts_done, facts_of, facts_through, without_marks_below}
 use Rattle.fact_lattice.specs.Cells.{after}
@@ -218,5 +216,5 @@ module _ (image : ImageValue) (entry stack start : ℕ) (ps : List Point) (sites
         record { point = r.0; done = x.done } ∷ r.3,
         (r.4, subst (λ o. Contains (ways_in (length sites) o) (way_to x.done way.0)) (sym s.1) way.1),
         sym (ap (λ q. facts_through image stack q.address (instruction_at image q.address) x.done (facts_of image stack k)) (sym r.2)
-        ∙ one_step r.0 s.0 x.done (facts_of image stack k) (facts_in (flow_of stack start sites) r.3) s.1 (sym r.5)),
+            ∙ one_step r.0 s.0 x.done (facts_of image stack k) (facts_in (flow_of stack start sites) r.3) s.1 (sym r.5)),
       )

@@ -2,7 +2,7 @@
 use Rattle.std.proofs.Common.{◌≡◌, refl, sym, ap, ◌∙◌, subst, ℕ, zero, suc, ◌+◌, ◌<◌, ◌≤◌, ◌-◌, ◌⊎◌, inl, inr, Bool, true, false, List, [], ◌∷◌, length, set, get_or, drop, arith}
 use Rattle.std.specs.Prelude.{◌≢◌, ◌&&◌, ◌||◌, ◌^◌, not, Option, Some, None}
 use Rattle.std.specs.Ordering.{int_eq}
-use Rattle.std.proofs.lemmas.Bool.{and_parts, cases_Bool, cases_eq, false≢true, true≢false, or_parts, or_cases, not-true, not-false}
+use Rattle.std.proofs.lemmas.Bool.{and_parts, cases_eq, false≢true, or_parts, or_cases, not-true, not-false}
 use Rattle.std.proofs.Math.Bool.{beq}
 use Rattle.std.proofs.Math.Numerals.{add-one}
 use Rattle.std.proofs.Math.Seq.{drop-cons}
@@ -13,8 +13,8 @@ use Rattle.fact_lattice.specs.declared.cells.Range.{Range}
 use Rattle.fact_lattice.specs.Cells.{AbstractState, joined, joined_cell, same_cell, same_origin}
 use Rattle.fact_lattice.proofs.NumberLemmas.{eq_true, same_itself, same_true, true_eq}
 use Rattle.copy_facts.specs.declared.tables.WordFacts.{WordFacts}
-use Rattle.copy_facts.specs.Tables.{AreEntriesTo, RisesTo, cell_in, entry_in, joined_entry, nothing_of, state_in, with_entry}
-use Rattle.copy_facts.proofs.EntryLemmas.{entry_word, head_found, head_passed, none_above, none_below, wider, written}
+use Rattle.copy_facts.specs.Tables.{AreEntriesTo, RisesTo, entry_in, joined_entry, nothing_of, state_in, with_entry}
+use Rattle.copy_facts.proofs.EntryLemmas.{head_found, head_passed, none_above, none_below, wider, written}
 
 -- ---- cells
 

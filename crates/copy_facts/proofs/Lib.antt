@@ -1,5 +1,6 @@
 pub mod EntryLemmas
 pub mod FlowLemmas
+pub mod FrameLemmas
 pub mod HistoryLemmas
 pub mod JoinedLemmas
 pub mod MergeLemmas

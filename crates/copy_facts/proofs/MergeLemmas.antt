@@ -1,6 +1,6 @@
 -- One way more that is met at a point, as a step of the search.
-use Rattle.std.proofs.Common.{◌≡◌, refl, sym, ap, ◌∙◌, subst, ℕ, zero, suc, ◌+◌, ◌<◌, ◌≤◌, ◌*◌, ◌/◌, ◌⊎◌, inl, inr, Bool, true, false, ℤ, ◌≤ℤ◌, List, [], ◌∷◌, ◌++◌, length, get_or, arith}
-use Rattle.std.specs.Prelude.{◌≢◌, ◌&&◌, ◌==◌, ◌^◌, if◌then◌else◌, Option, Some, None, IfSome, IfNone, IsSomeAnd, is_some, option_map, slice_get, slice_set}
+use Rattle.std.proofs.Common.{◌≡◌, refl, sym, ap, ◌∙◌, subst, ℕ, zero, suc, ◌+◌, ◌<◌, ◌≤◌, inl, inr, Bool, true, false, List, [], ◌∷◌, length, get_or, arith}
+use Rattle.std.specs.Prelude.{◌≢◌, ◌==◌, if◌then◌else◌, Option, Some, None, IfSome, IfNone, IsSomeAnd, is_some, option_map, slice_get, slice_set}
 use Rattle.std.proofs.lemmas.Option.{same_Some, slice_get-get_or, get_or_from_slice_get}
 use Rattle.std.proofs.lemmas.Bool.{cases_eq, cond-false, cond-true, eq-eqb, false≢true, ne_eqb}
 use Rattle.std.proofs.lemmas.List.{get_or-set_same, get_or-set_other, length-set}
@@ -165,11 +165,11 @@ lighter_set : (stack : ℕ) (facts : List (Option PointFacts)) (q : ℕ) (next :
     → q < length facts → Replaces stack (get_or facts q None) next t → weight_of_points stack (slice_set facts q (Some t)) < weight_of_points stack facts
 lighter_set stack facts q next t formed l r =
     let light =
-        elim (point_falls stack (stack_locations stack) (stack_words stack) (map_of facts q) next (formed q))
-        as (λ _. weight_at stack (stack_locations stack) (stack_words stack) (Some (joined_at stack (map_of facts q) next)) < weight_at stack (stack_locations stack) (stack_words stack) (map_of facts q)) [
-          | inl s ↦ absurd (r.differs s.0)
-          | inr k ↦ k
-        ] in
+    elim (point_falls stack (stack_locations stack) (stack_words stack) (map_of facts q) next (formed q))
+    as (λ _. weight_at stack (stack_locations stack) (stack_words stack) (Some (joined_at stack (map_of facts q) next)) < weight_at stack (stack_locations stack) (stack_words stack) (map_of facts q)) [
+      | inl s ↦ absurd (r.differs s.0)
+      | inr k ↦ k
+    ] in
     let less = merged_lighter stack (stack_locations stack) (stack_words stack) q next (map_of facts) (length facts) l light in
     subst (λ n. weight_below stack (stack_locations stack) (stack_words stack) (map_of (slice_set facts q (Some t))) n < weight_of_points stack facts) (sym (set_long facts q (Some t)))
     (subst (λ f. weight_below stack (stack_locations stack) (stack_words stack) f (length facts) < weight_of_points stack facts) (λ i x. sym (map_set stack facts q next t l r.joined x) i) less)

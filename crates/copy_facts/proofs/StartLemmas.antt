@@ -1,6 +1,6 @@
 -- The table with which the search begins.
-use Rattle.std.proofs.Common.{◌≡◌, refl, sym, ap, ◌∙◌, subst, ℕ, zero, suc, ◌+◌, ◌<◌, ◌≤◌, ◌⊎◌, inl, inr, Bool, true, false, ℤ, List, [], ◌∷◌, ◌++◌, length, get_or, arith}
-use Rattle.std.specs.Prelude.{◌≢◌, ◌==◌, ◌^◌, pos, nat_lt, if◌then◌else◌, Option, Some, None, IfSome, option_map, slice_get, slice_set}
+use Rattle.std.proofs.Common.{◌≡◌, refl, sym, ap, ◌∙◌, subst, ℕ, zero, suc, ◌<◌, ◌≤◌, ◌⊎◌, inl, inr, true, false, List, [], ◌∷◌, ◌++◌, length, get_or, arith}
+use Rattle.std.specs.Prelude.{◌≢◌, ◌==◌, ◌^◌, pos, nat_lt, Option, Some, None, IfSome, option_map, slice_get, slice_set}
 use Rattle.std.proofs.lemmas.Bool.{cases_eq, cond-false, cond-true, eq-eqb, ne_eqb}
 use Rattle.std.proofs.lemmas.Bool.Decides.{nat_tests}
 use Rattle.std.proofs.lemmas.List.{get_or-set_same, get_or-set_other, length-set}
@@ -20,7 +20,7 @@ use Rattle.copy_facts.specs.Points.{flow_of}
 use Rattle.copy_facts.specs.Searching.{ArePoints, IsInside, map_of, stack_locations, stack_words}
 use Rattle.copy_facts.specs.Tables.{IsTable, cell_in, state_in, state_of_point}
 use Rattle.copy_facts.proofs.FlowLemmas.{formed_start}
-use Rattle.copy_facts.proofs.StepLemmas.{PartlyStepped, stepped_on}
+use Rattle.copy_facts.proofs.StepLemmas.{PartlyStepped}
 
 -- ---- registers
 

@@ -1,6 +1,6 @@
 -- What is known after an instruction, by the parts of a table.
 use Rattle.std.proofs.Common.{◌≡◌, refl, sym, ap, ◌∙◌, subst, ℕ, zero, suc, ◌+◌, ◌<◌, ◌≤◌, ◌-◌, ◌⊎◌, inl, inr, Bool, true, false, ℤ, List, [], ◌∷◌, length, set, get_or, drop, arith}
-use Rattle.std.specs.Prelude.{◌≢◌, ◌&&◌, ◌^◌, Option, Some, None}
+use Rattle.std.specs.Prelude.{◌≢◌, ◌&&◌, ◌^◌, Option, None}
 use Rattle.std.proofs.lemmas.Bool.{and_right, cases_Bool, cases_eq, cond-false}
 use Rattle.std.proofs.lemmas.Bool.Decides.{nat_tests}
 use Rattle.std.proofs.lemmas.List.{get_or-set_same, get_or-set_other}
@@ -115,9 +115,9 @@ quiet_entry v k a b c = same_entry v (nothing_of k) a b c
 
 pub quiet_done : (stack : ℕ) (site : Site) (t : PointFacts) (k : ℕ) (o : Option ℤ) (ch : StackChange) → o ≡ one_offset (state_of_point t) → stack < 2 ^ 31
     → ((stack a k : ℕ) (literal : Option ℕ) → stack < 2 ^ 31 → is_tracked stack k ≡ true → is_touched ch k ≡ false
-      → source_of stack a literal o site.insn.op (StackWord k) ≡ source_beside ch k)
+    → source_of stack a literal o site.insn.op (StackWord k) ≡ source_beside ch k)
     → ((stack k : ℕ) (before : Bool) → stack < 2 ^ 31 → is_tracked stack k ≡ true → is_touched ch k ≡ false
-      → mark_of stack o site.insn.op k before ≡ mark_beside ch before)
+    → mark_of stack o site.insn.op k before ≡ mark_beside ch before)
     → is_touched ch k ≡ false → entry_in t.words.items k ≡ nothing_of k → stepped_entry stack site true t k ≡ nothing_of k
 quiet_done stack site t k o ch same small sources marks away none =
     quiet_entry (stepped_entry stack site true t k) k refl
@@ -241,7 +241,7 @@ pub old_ends : (f : ℕ → WordFacts) (old : List WordFacts) (from to i : ℕ) 
     → ((k : ℕ) → from ≤ k → k < to → entry_in old k ≡ nothing_of k → f k ≡ nothing_of k) → AreEntriesTo f to out
 old_ends f old from to i out s e quiet =
     wider f s.bound to out s.entries s.le_to (λ k a b.
-      let g = s.from_le in quiet k (omega (arith, g, a)) b (s.left_at k a b ∙ ap (λ ws. entry_in ws k) e))
+    let g = s.from_le in quiet k (omega (arith, g, a)) b (s.left_at k a b ∙ ap (λ ws. entry_in ws k) e))
 
 -- one word more
 pub all_on : (f : ℕ → WordFacts) (k : ℕ) (out : List WordFacts) (n : WordFacts) (next : List WordFacts) → AreEntriesTo f k out → n ≡ f k → n.word ≡ k
@@ -281,9 +281,9 @@ stepped_is stack site done t rs ws cells entries =
 pub quiet_here : (stack : ℕ) (site : Site) (done : Bool) (t : PointFacts) (k : ℕ) (o : Option ℤ) (ch : StackChange) → done ≡ true
     → o ≡ one_offset (state_of_point t) → stack < 2 ^ 31
     → ((stack a k : ℕ) (literal : Option ℕ) → stack < 2 ^ 31 → is_tracked stack k ≡ true → is_touched ch k ≡ false
-      → source_of stack a literal o site.insn.op (StackWord k) ≡ source_beside ch k)
+    → source_of stack a literal o site.insn.op (StackWord k) ≡ source_beside ch k)
     → ((stack k : ℕ) (before : Bool) → stack < 2 ^ 31 → is_tracked stack k ≡ true → is_touched ch k ≡ false
-      → mark_of stack o site.insn.op k before ≡ mark_beside ch before)
+    → mark_of stack o site.insn.op k before ≡ mark_beside ch before)
     → is_touched ch k ≡ false → entry_in t.words.items k ≡ nothing_of k → stepped_entry stack site done t k ≡ nothing_of k
 quiet_here stack site done t k o ch d same small sources marks away none =
     subst (λ b. stepped_entry stack site b t k ≡ nothing_of k) (sym d) (quiet_done stack site t k o ch same small sources marks away none)

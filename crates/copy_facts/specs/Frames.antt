@@ -13,10 +13,11 @@ use Rattle.path_facts.specs.StackUse.{IsReturnUnproved, IsStackLost, IsStackOver
 use Rattle.fact_lattice.specs.Flows.{IsSolved}
 use Rattle.copy_facts.specs.declared.frames.FrameRefusal.{FrameRefusal}
 use Rattle.copy_facts.specs.declared.frames.FrameRefusal.TheVariants as why
-use Rattle.copy_facts.specs.declared.points.PointTable.{PointTable}
 use Rattle.copy_facts.specs.declared.sites.Site.{Site}
+use Rattle.copy_facts.specs.declared.tables.PointFacts.{PointFacts}
+use Rattle.copy_facts.specs.Tables.{IsTable}
 use Rattle.copy_facts.specs.Points.{flow_of}
-use Rattle.copy_facts.specs.Searching.{ArePoints, IsInside, map_of}
+use Rattle.copy_facts.specs.Searching.{IsInside, map_of}
 
 -- what is needed of a point
 pub record IsSite (image : ImageValue) (p : Point) (site : Site) : Type 0 where
@@ -48,13 +49,10 @@ abbrev pub returned_in : Option Site → Option ℤ → Source
 returned_in None o = Nothing
 returned_in (Some site) o = return_source o site.insn.op
 
--- a solved table
-pub record AreFrames (stack start : ℕ) (sites : List Site) (t : PointTable) : Type 0 where
-  pub stack_is : t.stack ≡ stack
-  pub start_is : t.start ≡ start
-  pub sites_are : t.sites.items ≡ sites
-  pub points : ArePoints stack sites t.facts.items
-  pub solved : IsSolved (flow_of stack start sites) (map_of t.facts.items)
+-- what a search that came to its end leaves
+pub record AreFrames (stack start : ℕ) (sites : List Site) (facts : List (Option PointFacts)) : Type 0 where
+  pub tables : (p : ℕ) (t : PointFacts) → get_or facts p None ≡ Some t → IsTable t
+  pub solved : IsSolved (flow_of stack start sites) (map_of facts)
 
 -- the points before this address have nothing with the property, and those at it nothing less
 pub record IsLeastOver (image : ImageValue) (entry stack a : ℕ) (lowest : ℤ) : Type 0 where

@@ -1,21 +1,19 @@
 -- The points of a function by their numbers, with what the instruction at each does to facts.
-use Rattle.std.specs.Prelude.{◌≡◌, ℕ, ℤ, ◌==◌, ◌++◌, Bool, true, false, if◌then◌else◌, Option, Some, None, List, [], ◌∷◌}
+use Rattle.std.specs.Prelude.{ℕ, ℤ, ◌==◌, ◌++◌, Bool, true, false, if◌then◌else◌, Option, Some, None, List, [], ◌∷◌}
 use Rattle.std.specs.Prelude.{length, slice_get}
 use Rattle.control_flow.specs.Routes.{Place, Way}
 use Rattle.control_flow.specs.Routes.Place.{At, Exit}
-use Rattle.path_facts.specs.Facts.{Location}
-use Rattle.path_facts.specs.Facts.Location.{Register, StackWord}
+use Rattle.path_facts.specs.Facts.Location.{StackWord}
 use Rattle.path_facts.specs.Facts.Source.{Copy}
 use Rattle.path_facts.specs.Histories.{start_facts}
 use Rattle.path_facts.specs.Sources.{mark_of, source_of}
 use Rattle.path_facts.specs.StackUse.{accesses_by_sp}
-use Rattle.fact_lattice.specs.declared.cells.Range.{Range}
-use Rattle.fact_lattice.specs.Cells.{AbstractState, Step, cell_of, one_offset, transferred}
+use Rattle.fact_lattice.specs.Cells.{AbstractState, Step, one_offset, transferred}
 use Rattle.fact_lattice.specs.Flows.{Flow}
 use Rattle.copy_facts.specs.declared.sites.Site.{Site}
 use Rattle.copy_facts.specs.declared.tables.PointFacts.{PointFacts}
 use Rattle.copy_facts.specs.declared.tables.WordFacts.{WordFacts}
-use Rattle.copy_facts.specs.Tables.{entry_in, state_of_point}
+use Rattle.copy_facts.specs.Tables.{state_of_point}
 
 -- a skipped instruction leaves all as it was
 abbrev pub skipped_step : Step

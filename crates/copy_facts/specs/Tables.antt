@@ -1,5 +1,5 @@
 -- What all paths say of a point, as a table: the cells of r0 to r14, and the stack words that have a cell or a mark.
-use Rattle.std.specs.Prelude.{◌≡◌, ℕ, suc, ◌≤◌, ◌-◌, ◌^◌, ◌==◌, ◌&&◌, ◌||◌, Bool, false, if◌then◌else◌, List, [], ◌∷◌, ◌++◌}
+use Rattle.std.specs.Prelude.{◌≡◌, ℕ, suc, ◌≤◌, ◌-◌, ◌^◌, ◌==◌, ◌&&◌, ◌||◌, false, if◌then◌else◌, List, [], ◌∷◌, ◌++◌}
 use Rattle.std.specs.Prelude.{Option, None, get_or, is_some, length}
 use Rattle.path_facts.specs.Facts.{Location}
 use Rattle.path_facts.specs.Facts.Location.{Register, StackWord}

@@ -5,9 +5,9 @@ ghost use Rattle.copy_facts.specs.declared.sites.Site.{Site as SiteValue};
 ghost use Rattle.copy_facts.specs.Frames.{AreFrames, IsRefusedFor};
 ghost use Rattle.copy_facts.specs.Searching.{IsInside};
 
-use crate::points::PointTable;
 use crate::sites::Site;
 use crate::start::start_table;
+use crate::tables::PointFacts;
 use fact_lattice::{Stop, solve};
 use std::alloc::Global;
 
@@ -16,7 +16,7 @@ use std::alloc::Global;
 pub enum FrameRefusal {
     /// Memory was refused.
     Memory,
-    /// R13 isn't known at an access by it, or isn't the same on all paths: the address of the access.
+    /// The access by r13 at an address has no one offset: r13 isn't known there, or isn't the same on all paths.
     Lost(u32),
     /// An access goes beyond the stack: the least such address, and there the least offset of its lowest byte.
     Over(u32, i64),
@@ -25,13 +25,12 @@ pub enum FrameRefusal {
 }
 
 /// The address of a point.
-fn address_of(sites: &Vec<Site>, point: u32) -> u32
-    ensures { (site : SiteValue) → slice_get sites.now.items point ≡ Some site → result ≡ site.address }
+fn address_of(sites: &[Site], point: u32) -> u32
+    ensures { (site : SiteValue) → slice_get sites.now point ≡ Some site → result ≡ site.address }
 {
-    if (point as usize) < sites.len() {
-        sites[point as usize].address
-    } else {
-        0
+    match sites.get(point as usize) {
+        Some(site) => site.address,
+        None => 0,
     }
 }
 
@@ -40,23 +39,23 @@ fn solved(
     alloc: Global,
     stack: u32,
     start: u32,
-    sites: Vec<Site>,
-) -> Result<PointTable, FrameRefusal>
+    sites: &[Site],
+) -> Result<Vec<Option<PointFacts>>, FrameRefusal>
     requires small { stack < 2 ^ 31 }
-    requires few { length sites.items < 2 ^ 32 }
-    requires starts { start < length sites.items }
-    requires inside { (i : ℕ) (site : SiteValue) → slice_get sites.items i ≡ Some site
-        → IsInside (length sites.items) site }
-    ensures ok { IfOk result (AreFrames stack start sites.items) }
-    ensures refused { IfErr result (IsRefusedFor stack start sites.items) }
+    requires few { length sites.now < 2 ^ 32 }
+    requires starts { start < length sites.now }
+    requires inside { (i : ℕ) (site : SiteValue) → slice_get sites.now i ≡ Some site
+        → IsInside (length sites.now) site }
+    ensures ok { IfOk result (λ facts. AreFrames stack start sites.now facts.items) }
+    ensures refused { IfErr result (IsRefusedFor stack start sites.now) }
 {
     let mut table = match start_table(alloc, stack, start, sites) {
         Ok(table) => table,
         Err(_) => return Err(FrameRefusal::Memory),
     };
     match solve(alloc, &mut table, start) {
-        Ok(()) => Ok(table),
+        Ok(()) => Ok(table.facts),
         Err(Stop::Memory) => Err(FrameRefusal::Memory),
-        Err(Stop::Lost(point)) => Err(FrameRefusal::Lost(address_of(&table.sites, point))),
+        Err(Stop::Lost(point)) => Err(FrameRefusal::Lost(address_of(sites, point))),
     }
 }

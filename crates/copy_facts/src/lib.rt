@@ -1,4 +1,10 @@
-//! X
+//! What all paths to each point of a function say of registers and stack words.
+//!
+//! Of each point that control reaches there is a table ([`PointFacts`]): the cells of r0 to r14, and in ascending order
+//! the stack words of which something is known. A point of compiled code needs well under a kilobyte, and a large frame
+//! costs nothing until its words are stored. [`step_point`] gives the table after an instruction and looks only at the
+//! words that are in the table or that the instruction may change; [`join_points`] joins two tables, or says that the
+//! second brings nothing new. [`PointTable`] is the table of all points over which the search of `fact_lattice` merges.
 #![tactic(auto)]
 
 mod frames;

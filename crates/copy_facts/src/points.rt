@@ -20,11 +20,11 @@ use std::alloc::{AllocError, Global};
 
 /// The points of a function, and what is known of each that was reached.
 #[derive(Drop)]
-pub struct PointTable {
+pub struct PointTable<'a> {
     pub alloc: Global,
     pub stack: u32,
     pub start: u32,
-    pub sites: Vec<Site>,
+    pub sites: &'a [Site],
     pub facts: Vec<Option<PointFacts>>,
 }
 
@@ -69,12 +69,14 @@ fn number_of_ways(targets: &Targets) -> usize
     }
 }
 
+impl<'a> Merging for PointTable<'a> {
+    ghost flow = { λ s. flow_of s.stack s.start s.sites.now };
 
-impl Merging for PointTable {
-    ghost flow = { λ s. flow_of s.stack s.start s.sites.items };
     ghost map = { λ s. map_of s.facts.items };
+
     ghost weight = { λ s. weight_of_points s.stack s.facts.items };
-    ghost sound = { λ s. ArePoints s.stack s.sites.items s.facts.items };
+
+    ghost sound = { λ s. ArePoints s.stack s.sites.now s.facts.items };
 
     fn is_placed(&self, point: u32) -> bool {
         match self.sites.get(point as usize) {
@@ -107,7 +109,7 @@ impl Merging for PointTable {
     }
 }
 
-impl PointTable {
+impl<'a> PointTable<'a> {
     /// Whether r13 is known at a point.
     fn has_offset(&self, point: u32) -> bool
         ensures { IfSome (map_of self.now.facts.items point) (λ m. result ≡ is_some (one_offset m)) }
@@ -123,35 +125,35 @@ impl PointTable {
 
     /// A way of a point by its number.
     fn way(&self, point: u32, way: usize) -> (bool, u32)
-        requires within { way < length (ways_in (length self.now.sites.items) (slice_get self.now.sites.items point)) }
-        requires inside { (p : ℕ) (site : SiteValue) → slice_get self.now.sites.items p ≡ Some site
-            → IsInside (length self.now.sites.items) site }
-        ensures way { slice_get (ways_in (length self.now.sites.items) (slice_get self.now.sites.items point)) way
-            ≡ Some (record { done = result.0; to = place_in (length self.now.sites.items) result.1 }) }
-        ensures inside { result.1 ≤ length self.now.sites.items }
+        requires within { way < length (ways_in (length self.now.sites.now) (slice_get self.now.sites.now point)) }
+        requires inside { (p : ℕ) (site : SiteValue) → slice_get self.now.sites.now p ≡ Some site
+            → IsInside (length self.now.sites.now) site }
+        ensures way { slice_get (ways_in (length self.now.sites.now) (slice_get self.now.sites.now point)) way
+            ≡ Some (record { done = result.0; to = place_in (length self.now.sites.now) result.1 }) }
+        ensures inside { result.1 ≤ length self.now.sites.now }
     {
-        if (point as usize) < self.sites.len() {
-            let site = self.sites[point as usize];
-            way_at(&site.targets, way)
-        } else {
-            (false, 0)
+        match self.sites.get(point as usize) {
+            Some(site) => way_at(&site.targets, way),
+            None => (false, 0),
         }
     }
 
     /// What is known after the instruction at a point.
     fn next(&self, point: u32, done: bool) -> Result<PointFacts, AllocError>
-        requires sound { ArePoints self.now.stack self.now.sites.items self.now.facts.items }
+        requires sound { ArePoints self.now.stack self.now.sites.now self.now.facts.items }
         requires known { is_some (map_of self.now.facts.items point) ≡ true }
-        requires there { is_some (slice_get self.now.sites.items point) ≡ true }
+        requires there { is_some (slice_get self.now.sites.now point) ≡ true }
         ensures table { IfOk result IsTable }
         ensures stepped { IfOk result (λ t. IfSome (map_of self.now.facts.items point) (λ m. state_of_point t
-            ≡ transferred self.now.stack (step_in self.now.stack (slice_get self.now.sites.items point) done
+            ≡ transferred self.now.stack (step_in self.now.stack (slice_get self.now.sites.now point) done
             (one_offset m)) m)) }
     {
-        let site = self.sites[point as usize];
+        let Some(site) = self.sites.get(point as usize) else {
+            return Err(AllocError);
+        };
         match &self.facts[point as usize] {
             Some(facts) => {
-                let table = step_point(self.alloc, self.stack, &site, done, facts)?;
+                let table = step_point(self.alloc, self.stack, site, done, facts)?;
                 Ok(table)
             }
             None => Err(AllocError),

@@ -61,20 +61,20 @@ fn no_facts(alloc: Global, count: usize) -> Result<Vec<Option<PointFacts>>, Allo
 }
 
 /// The table with which the search begins: only the start is reached.
-pub fn start_table(
+pub fn start_table<'a>(
     alloc: Global,
     stack: u32,
     start: u32,
-    sites: Vec<Site>,
-) -> Result<PointTable, AllocError>
+    sites: &'a [Site],
+) -> Result<PointTable<'a>, AllocError>
     requires small { stack < 2 ^ 31 }
-    requires few { length sites.items < 2 ^ 32 }
-    requires starts { start < length sites.items }
-    requires inside { (i : ℕ) (site : SiteValue) → slice_get sites.items i ≡ Some site
-        → IsInside (length sites.items) site }
-    ensures same { IfOk result (λ t. (t.stack ≡ stack) × (t.start ≡ start) × (t.sites.items ≡ sites.items)) }
-    ensures points { IfOk result (λ t. ArePoints stack sites.items t.facts.items) }
-    ensures first { IfOk result (λ t. map_of t.facts.items ≡ first_map (flow_of stack start sites.items)) }
+    requires few { length sites.now < 2 ^ 32 }
+    requires starts { start < length sites.now }
+    requires inside { (i : ℕ) (site : SiteValue) → slice_get sites.now i ≡ Some site
+        → IsInside (length sites.now) site }
+    ensures same { IfOk result (λ t. (t.stack ≡ stack) × (t.start ≡ start) × (t.sites.now ≡ sites.now)) }
+    ensures points { IfOk result (λ t. ArePoints stack sites.now t.facts.items) }
+    ensures first { IfOk result (λ t. map_of t.facts.items ≡ first_map (flow_of stack start sites.now)) }
 {
     let mut facts = no_facts(alloc, sites.len())?;
     facts[start as usize] = Some(start_point(alloc));

@@ -13,7 +13,9 @@ use crate::sites::Site;
 use crate::tables::{PointFacts, WordFacts};
 use fact_lattice::{Range, constant, is_above_all, shift};
 use path_facts::Origin;
-use point_steps::{Location, Source, StackChange, mark_after, register_source, stack_change, word_source};
+use point_steps::{
+    Location, Source, StackChange, mark_after, register_source, stack_change, word_source,
+};
 use std::alloc::{AllocError, Global};
 
 /// The cell of a register.
@@ -34,7 +36,7 @@ pub fn word_facts(facts: &PointFacts, word: u32) -> WordFacts
     find(facts.words.as_slice(), word)
 }
 
-/// R13's offset by its cell.
+/// The offset of r13 by its cell.
 fn offset_in(sp: Option<Range>) -> Option<i32>
     ensures { result ≡ offset_in (known_in sp) }
 {
@@ -99,19 +101,17 @@ fn register_after(
 {
     if done {
         let offset = offset_of(facts);
-        cell_from(facts, register_source(site.address, site.literal, offset, &site.insn, register))
+        cell_from(
+            facts,
+            register_source(site.address, site.literal, offset, &site.insn, register),
+        )
     } else {
         register_cell(facts, register)
     }
 }
 
 /// What the registers hold after an instruction.
-fn registers_after(
-    stack: u32,
-    site: &Site,
-    done: bool,
-    facts: &PointFacts,
-) -> [Option<Range>; 15]
+fn registers_after(stack: u32, site: &Site, done: bool, facts: &PointFacts) -> [Option<Range>; 15]
     requires { IsTable facts.now }
     ensures long { length result ≡ 15 }
     ensures cells { (r : ℕ) → get_or result r None ≡ (stepped_state stack site.now done facts.now).cell (Register r) }

@@ -148,7 +148,8 @@ pub fn is_above_all(stack: u32, sp: Option<Range>, word: u32) -> bool
         None => false,
         Some(range) => {
             is_start_sp(range.origin)
-                & (is_near_stack(stack, range.low, range.high) & is_word_above(stack, range.high, word))
+                & (is_near_stack(stack, range.low, range.high)
+                    & is_word_above(stack, range.high, word))
         }
     }
 }

@@ -1,4 +1,4 @@
-use Rattle.std.proofs.Common.{rules, ◌∙◌, sym}
+use Rattle.std.proofs.Common.{◌∙◌, sym}
 use Rattle.std.proofs.lemmas.Bool.{and_parts}
 use Rattle.copy_facts.proofs.JoinedLemmas.{beq_true, same_cell_true, same_entry}
 use Rattle.copy_facts.proofs.joining.is_same_entry.Goals as goal

@@ -1,4 +1,4 @@
-use Rattle.std.proofs.Common.{rules, ◌∙◌, ap, inl, inr, true}
+use Rattle.std.proofs.Common.{rules, inl, inr}
 use Rattle.std.specs.Prelude.{◌≢◌}
 use Rattle.std.proofs.lemmas.Bool.{or_cases}
 use Rattle.fact_lattice.specs.Cells.{joined}

@@ -1,5 +1,5 @@
 use Rattle.std.proofs.Common.{rules}
-use Rattle.copy_facts.proofs.JoinedLemmas.{cells_go_on, cells_joined, cells_same, cells_differ}
+use Rattle.copy_facts.proofs.JoinedLemmas.{cells_go_on, cells_joined}
 use Rattle.copy_facts.proofs.joining.join_registers.Goals as goal
 
 pub loop-at-preserved : goal.loop-at-preserved

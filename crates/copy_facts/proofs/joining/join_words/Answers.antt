@@ -1,5 +1,5 @@
 use Rattle.std.proofs.Common.{rules, get_or}
-use Rattle.copy_facts.specs.Tables.{joined_entry, nothing_of}
+use Rattle.copy_facts.specs.Tables.{nothing_of}
 use Rattle.copy_facts.proofs.JoinedLemmas.{drop_all, drop_next, joined_entries, joined_rises, joined_same, joining_goes_on}
 use Rattle.copy_facts.proofs.joining.join_words.Goals as goal
 

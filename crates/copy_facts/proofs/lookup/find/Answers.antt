@@ -1,4 +1,4 @@
-use Rattle.std.proofs.Common.{rules, ◌∙◌}
+use Rattle.std.proofs.Common.{◌∙◌}
 use Rattle.copy_facts.proofs.EntryLemmas.{found_here, got, got_none, missing_all, missing_here}
 use Rattle.copy_facts.proofs.lookup.find.Goals as goal
 

@@ -1,4 +1,4 @@
-use Rattle.std.proofs.Common.{rules, arith}
+use Rattle.std.proofs.Common.{arith}
 use Rattle.copy_facts.proofs.EntryLemmas.{greater_after, middle_below, smaller_before}
 use Rattle.copy_facts.proofs.lookup.place_of.Goals as goal
 

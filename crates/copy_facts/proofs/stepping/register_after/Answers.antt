@@ -1,4 +1,3 @@
-use Rattle.std.proofs.Common.{rules}
 use Rattle.path_facts.specs.Facts.Location.{Register}
 use Rattle.point_steps.specs.Meanings.{source_meant}
 use Rattle.copy_facts.specs.Tables.{state_of_point}

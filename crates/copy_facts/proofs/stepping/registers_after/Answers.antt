@@ -1,4 +1,3 @@
-use Rattle.std.proofs.Common.{rules}
 use Rattle.copy_facts.proofs.StepLemmas.{stepped_on}
 use Rattle.copy_facts.proofs.stepping.registers_after.Goals as goal
 

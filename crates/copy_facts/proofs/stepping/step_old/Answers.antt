@@ -1,4 +1,4 @@
-use Rattle.std.proofs.Common.{rules, ap}
+use Rattle.std.proofs.Common.{rules}
 use Rattle.copy_facts.specs.Points.{stepped_entry}
 use Rattle.copy_facts.proofs.JoinedLemmas.{drop_all, drop_got}
 use Rattle.copy_facts.proofs.StepLemmas.{old_above, old_below, old_ends, old_written}

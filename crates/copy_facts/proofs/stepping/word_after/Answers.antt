@@ -1,8 +1,6 @@
-use Rattle.std.proofs.Common.{rules, ap, ◌∙◌}
-use Rattle.path_facts.specs.Facts.Location.{Register}
+use Rattle.std.proofs.Common.{ap, ◌∙◌}
 use Rattle.path_facts.specs.Sources.{mark_of}
 use Rattle.point_steps.specs.Meanings.{source_meant}
-use Rattle.copy_facts.specs.Tables.{state_of_point}
 use Rattle.copy_facts.proofs.StepLemmas.{done_entry}
 use Rattle.copy_facts.proofs.stepping.word_after.Goals as goal
 

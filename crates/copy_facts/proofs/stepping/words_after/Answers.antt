@@ -1,4 +1,4 @@
-use Rattle.std.proofs.Common.{rules, ap, inl, inr}
+use Rattle.std.proofs.Common.{rules, inl, inr}
 use Rattle.copy_facts.specs.Points.{stepped_entry}
 use Rattle.copy_facts.proofs.StepLemmas.{all_entries}
 use Rattle.copy_facts.proofs.stepping.words_after.Goals as goal
