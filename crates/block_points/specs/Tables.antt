@@ -9,7 +9,8 @@ use Rattle.flow_graph.specs.declared.graph.Block.{Block}
 use Rattle.block_points.specs.declared.tables.BlockPoints.{BlockPoints}
 use Rattle.block_points.specs.Numbering.{firsts_from, joined, next_from, rows_from}
 
--- By number: each block's points, each point's block, cache line and greatest cost, what follows it and what it follows.
+-- By number: each block's points; each point's block, cache line and greatest cost, what follows it and what it
+-- follows.
 pub record ArePoints (t : Timing) (bs : List Block) (p : BlockPoints) : Type 0 where
   pub rows : p.rows ≡ rows_from 0 bs
   pub home : p.home ≡ joined (λ k b. replicate (length b.points) k) 0 bs

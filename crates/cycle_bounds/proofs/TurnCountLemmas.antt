@@ -89,8 +89,8 @@ module _ (ways : Point → List (Way Point)) (start : Point) (line most : Point 
       costs =
           let c = paid cost most t sets a some any all_sets x.block x.taken (history (reversed_of a) bs) (passed_points a x p) cheap v
           missed in
-          let base : a.nest.base v.block ≡ base_of t most a x.block = ap a.nest.base block ∙ is.base x.block in
-          let uses : a.nest.uses v.block ≡ uses_of a x.block = ap a.nest.uses block ∙ is.uses x.block in
+          let base : a.nest.base v.block ≡ base_of t most a x.block = ap a.nest.base block ∙ is.base x.block x.chain p.0 in
+          let uses : a.nest.uses v.block ≡ uses_of a x.block = ap a.nest.uses block ∙ is.uses x.block x.chain p.0 in
           let same : t.miss * misses (length (a.nest.uses v.block)) v ≡ t.miss * misses (length (uses_of a x.block)) v = ap
           (λ (us : List Use). t.miss * misses (length us) v) uses in
           omega (arith, c, base, same, spent)

@@ -1,5 +1,5 @@
 -- The uses of an analysis are what the law on misses wants.
-use Rattle.std.proofs.Common.{◌≡◌, ℕ, ◌<◌, ◌≤◌, true, Option, Some, None, List, [], ◌∷◌, length, refl, sym, ap, ◌∙◌, subst}
+use Rattle.std.proofs.Common.{◌≡◌, ℕ, ◌<◌, ◌≤◌, true, Option, Some, None, List, [], ◌∷◌, length, refl, sym, ap, ◌∙◌, subst, arith}
 use Rattle.std.specs.Prelude.{is_some, slice_get, unwrap_or}
 use Rattle.std.specs.List.{AllByRecursion}
 use Rattle.std.proofs.lemmas.Bool.{false≢true}
@@ -8,7 +8,7 @@ use Rattle.control_flow.specs.Points.{Point}
 use Rattle.wsym_terms.specs.declared.trees.Use.{Use}
 use Rattle.control_flow.specs.Routes.{Way}
 use Rattle.basic_blocks.specs.Blocks.{Chain}
-use Rattle.persistence.specs.Spots.{turned}
+use Rattle.persistence.specs.Spots.{spots, turned}
 use Rattle.persistence.specs.Younger.{AtLeast, IsYounger}
 use Rattle.tree_law.specs.Levels.{scopes_of}
 use Rattle.tree_law.specs.Pieces.{scope_at}
@@ -57,6 +57,15 @@ module _ (ways : Point → List (Way Point)) (start : Point) (line most : Point 
     low : depth ≤ a.at (a.loops.inner b)
     few : AtLeast t.ways (IsYounger a.code t.sets (λ q. a.within (a.round b depth) (a.block_of q)) (spot_at (spots_of a b) k).point) → ⊥
 
+  -- a block that has uses is there
+  listed : (b k : ℕ) → k < length (spots_of a b) → (c : Chain ℕ) × (slice_get a.blocks b ≡ Some c)
+  listed b k lt = by_block (slice_get a.blocks b) refl lt
+    where
+      by_block : (o : Option (Chain ℕ)) → slice_get a.blocks b ≡ o → k < length (spots a.code a.scope None [] (points_in o))
+          → (c : Chain ℕ) × (slice_get a.blocks b ≡ Some c)
+      by_block None e lt = absurd (omega (arith, lt))
+      by_block (Some c) e lt = (c, e)
+
   scoped : (b k : ℕ) → k < length (spots_of a b) → Scoped b k
   scoped b k lt =
       let s = at_spot (IsSpot (reversed_of a b) a.scope (IsOf b)) (spots_of a b) k lt
@@ -68,7 +77,8 @@ module _ (ways : Point → List (Way Point)) (start : Point) (line most : Point 
       record {
         spot = s;
         depth = o.0;
-        shown = ap (λ (us : List Use). scope_at us k) (is.uses b) ∙ scope_of_spot a.code a.scope (spots_of a b) k lt
+        shown = ap (λ (us : List Use). scope_at us k) (is.uses b (listed b k lt).0 (listed b k lt).1)
+            ∙ scope_of_spot a.code a.scope (spots_of a b) k lt
             ∙ ap (λ (q : Option ℕ). unwrap_or q 0) o.1;
         low = subst (λ (q : ℕ). o.0 ≤ a.at (a.loops.inner q)) block scope.0;
         few = subst (λ (r : ℕ). AtLeast t.ways (IsYounger a.code t.sets (λ q. a.within (a.round r o.0) (a.block_of q)) p) → ⊥) block

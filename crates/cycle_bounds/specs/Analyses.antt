@@ -111,8 +111,8 @@ pub record IsAnalysis (ways : Point → List (Way Point)) (start : Point) (line 
     (a : Analysis) : Type 0 where
   pub numbers : AreNumbers ways start line a
   pub scopes : AreScopes t a
-  pub base : (b : ℕ) → a.nest.base b ≡ base_of t most a b
-  pub uses : (b : ℕ) → a.nest.uses b ≡ uses_of a b
+  pub base : (b : ℕ) (c : Chain ℕ) → slice_get a.blocks b ≡ Some c → a.nest.base b ≡ base_of t most a b
+  pub uses : (b : ℕ) (c : Chain ℕ) → slice_get a.blocks b ≡ Some c → a.nest.uses b ≡ uses_of a b
   pub are_loops : AreLoops a.loops a.next a.within a.entry a.at a.height
   pub are_round : IsRound (flow_of a) a.at a.round
   pub order : IsOrder a.loops a.next a.within a.entry a.rank

@@ -1,0 +1,4 @@
+pub mod CutLemmas
+pub mod DepthLemmas
+pub mod GraphLemmas
+pub mod NumberLemmas
