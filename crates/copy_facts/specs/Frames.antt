@@ -1,16 +1,21 @@
 -- What is known at the points of a function, by their histories, and why a function is refused.
+use Rattle.std.specs.Prelude.{◌==◌, ◌&&◌, ◌||◌, not, nat_lt, int_lt, if◌then◌else◌, pos, neg_ℤ, Bool, true, false}
+use Rattle.std.specs.Prelude.{IfSome, IsSomeAnd, option_and_then}
 use Rattle.std.specs.Prelude.{◌≡◌, ◌⊎◌, ℕ, ℤ, ◌≤ℤ◌, ◌<◌, ◌≤◌, List, map, get_or, slice_get, length, Option, Some, None}
 use Rattle.elf32_image.specs.Parts.{ImageValue}
 use Rattle.control_flow.specs.Instructions.{instruction_at}
 use Rattle.control_flow.specs.Points.{Point, entry_point, last_return}
 use Rattle.control_flow.specs.Ways.{ways_from}
-use Rattle.path_facts.specs.Histories.{literal_of}
+use Rattle.path_facts.specs.Histories.{literal_of, wanted_fact}
 use Rattle.point_tables.specs.Targets.{AreTargets}
 use Rattle.path_facts.specs.Facts.{Source}
 use Rattle.path_facts.specs.Facts.Source.{Nothing}
 use Rattle.path_facts.specs.Sources.{return_source}
-use Rattle.path_facts.specs.StackUse.{IsReturnUnproved, IsStackLost, IsStackOver, lowest_byte}
+use Rattle.path_facts.specs.StackUse.{IsReturnUnproved, IsStackLost, IsStackOver, accesses_by_sp, lowest_byte}
 use Rattle.fact_lattice.specs.Flows.{IsSolved}
+use Rattle.arm_isa.specs.Writes.{is_return_form}
+use Rattle.fact_lattice.specs.Cells.{AbstractState, cell_of, one_offset, only_fact, same_cell}
+use Rattle.copy_facts.specs.declared.least.Found.{Found}
 use Rattle.copy_facts.specs.declared.frames.FrameRefusal.{FrameRefusal}
 use Rattle.copy_facts.specs.declared.frames.FrameRefusal.TheVariants as why
 use Rattle.copy_facts.specs.declared.sites.Site.{Site}
@@ -89,3 +94,52 @@ abbrev pub IsRefusedFor : ℕ → ℕ → List Site → FrameRefusal → Type 0
 IsRefusedFor stack start sites why =
     (image : ImageValue) (entry : ℕ) (ps : List Point) → AreFramePoints image entry ps start sites
     → IsRefusedFrame image entry stack why
+
+-- an offset that lies below the stack's bytes
+abbrev pub beyond : ℕ → Option ℤ → Option ℤ
+beyond stack None = None
+beyond stack (Some z) = if int_lt z (neg_ℤ (pos stack)) then Some z else None
+
+-- the lowest byte of a point's access, where it lies below the stack's bytes, by what all paths say
+abbrev pub over_in : ℕ → Option Site → Option AbstractState → Option ℤ
+over_in stack None m = None
+over_in stack (Some site) None = None
+over_in stack (Some site) (Some m) =
+    if accesses_by_sp site.insn.op
+    then beyond stack (option_and_then (λ o. lowest_byte o site.insn.op) (one_offset m))
+    else None
+
+-- a return of which all paths don't say that it brings its own return address
+abbrev pub unproved_in : Option Site → Option AbstractState → Bool
+unproved_in None m = false
+unproved_in (Some site) None = false
+unproved_in (Some site) (Some m) =
+    is_return_form site.insn
+    && not (same_cell (cell_of m (return_source (one_offset m) site.insn.op)) (only_fact (Some (wanted_fact site.home))))
+
+abbrev pub address_in : Option Site → ℕ
+address_in None = 0
+address_in (Some site) = site.address
+
+-- what comes first by its address, and then by its offset
+abbrev pub lesser : Option Found → ℕ → ℤ → Option Found
+lesser None a z = Some (record { address = a; lowest = z })
+lesser (Some x) a z =
+    if nat_lt a x.address || ((a == x.address) && int_lt z x.lowest) then Some (record { address = a; lowest = z })
+    else Some x
+
+abbrev pub with_lowest : Option Found → ℕ → Option ℤ → Option Found
+with_lowest found a None = found
+with_lowest found a (Some z) = lesser found a z
+
+-- of the first n points what comes first of those that have the property
+pub record IsLeastTo (P : ℕ → ℤ → Type 0) (A : ℕ → ℕ) (n : ℕ) (found : Option Found) : Type 0 where
+  pub there : IfSome found (λ x. (i : ℕ) × (i < n) × P i x.lowest × (A i ≡ x.address))
+  pub least : (i : ℕ) (o : ℤ) → i < n → P i o
+      → IsSomeAnd found (λ x. (x.address < A i) ⊎ ((x.address ≡ A i) × (x.lowest ≤ℤ o)))
+
+abbrev pub IsOverNumber : ℕ → List Site → List (Option PointFacts) → ℕ → ℤ → Type 0
+IsOverNumber stack sites facts i o = over_in stack (slice_get sites i) (map_of facts i) ≡ Some o
+
+abbrev pub IsUnprovedNumber : List Site → List (Option PointFacts) → ℕ → ℤ → Type 0
+IsUnprovedNumber sites facts i o = (unproved_in (slice_get sites i) (map_of facts i) ≡ true) × (o ≡ pos 0)

@@ -9,6 +9,7 @@
 
 mod frames;
 mod joining;
+mod least;
 mod lookup;
 mod merging;
 mod points;
@@ -19,6 +20,7 @@ mod tables;
 
 pub use frames::FrameRefusal;
 pub use joining::join_points;
+pub use least::Found;
 pub use lookup::{find, put};
 pub use merging::meet;
 pub use points::PointTable;
