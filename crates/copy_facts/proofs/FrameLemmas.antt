@@ -60,16 +60,16 @@ module _ (image : ImageValue) (entry stack start : ℕ) (ps : List Point) (sites
   one_number i j l m e = let n = a.long in a.each.table.distinct i j (omega (arith, l, n)) (omega (arith, m, n)) e
 
   -- a history of a point is one of its number
-  numbered : (i : ℕ) → i < length sites → (k : List (Taken Point)) → IsHistoryOf image entry k (point i)
+  pub numbered : (i : ℕ) → i < length sites → (k : List (Taken Point)) → IsHistoryOf image entry k (point i)
       → (h : List (Taken ℕ)) × IsHistoryIn flow h i × (facts_in flow h ≡ facts_of image stack k)
   numbered i l k e =
       let r = back k (point i) e in
       (r.3, subst (λ x. IsHistoryIn flow r.3 x) (one_number r.0 i r.1 l r.2) r.4, r.5)
 
-  number_of : (p : Point) (k : List (Taken Point)) → IsHistoryOf image entry k p → (i : ℕ) × (i < length sites) × (point i ≡ p)
+  pub number_of : (p : Point) (k : List (Taken Point)) → IsHistoryOf image entry k p → (i : ℕ) × (i < length sites) × (point i ≡ p)
   number_of p k e = let r = back k p e in (r.0, r.1, r.2)
 
-  site_at : (i : ℕ) → i < length sites → (site : Site) × (slice_get sites i ≡ Some site)
+  pub site_at : (i : ℕ) → i < length sites → (site : Site) × (slice_get sites i ≡ Some site)
   site_at i l = found sites i l where
     found : {A : Type 0} (xs : List A) (i : ℕ) → i < length xs → (x : A) × (slice_get xs i ≡ Some x)
     found [] i l = absurd (omega (arith, l))
@@ -77,7 +77,7 @@ module _ (image : ImageValue) (entry stack start : ℕ) (ps : List Point) (sites
     found (x ∷ xs) (suc i) l = found xs i (omega (arith, l))
 
   -- the instruction of a point is its site's
-  same_insn : (i : ℕ) (site : Site) (insn : Insn) → slice_get sites i ≡ Some site → instruction_at image (point i).address ≡ Some insn → insn ≡ site.insn
+  pub same_insn : (i : ℕ) (site : Site) (insn : Insn) → slice_get sites i ≡ Some site → instruction_at image (point i).address ≡ Some insn → insn ≡ site.insn
   same_insn i site insn e f = same_Some insn site.insn (sym f ∙ (a.each.each i site e).insn)
 
   -- ---- lost
@@ -201,7 +201,7 @@ module _ (stack start : ℕ) (sites : List Site) (map : ℕ → Option AbstractS
   abbrev flow_here : Flow
   flow_here = flow_of stack start sites
 
-  reached : (h : List (Taken ℕ)) → IsHistoryIn flow_here h i → (m : AbstractState) × (map i ≡ Some m)
+  pub reached : (h : List (Taken ℕ)) → IsHistoryIn flow_here h i → (m : AbstractState) × (map i ≡ Some m)
   reached h e = opened (map i) refl where
     opened : (o : Option AbstractState) → map i ≡ o → (m : AbstractState) × (map i ≡ Some m)
     opened None n = absurd (unreached flow_here map solved i n h e)
@@ -239,8 +239,8 @@ module _ (stack start : ℕ) (sites : List Site) (map : ℕ → Option AbstractS
               let uses : accesses_in (slice_get sites i) ≡ true = ap accesses_in a ∙ t in
               let c = placed m b uses in
               let x = some_lowest o (lowest_byte c.0 site.insn.op) stack
-                  (sym (ap (λ y. beyond stack (option_and_then (λ o. lowest_byte o site.insn.op) y)) c.1)
-                  ∙ (sym (cond-true (accesses_by_sp site.insn.op) (beyond stack (option_and_then (λ o. lowest_byte o site.insn.op) (one_offset m))) None t) ∙ e)) in
+              (sym (ap (λ y. beyond stack (option_and_then (λ o. lowest_byte o site.insn.op) y)) c.1)
+              ∙ (sym (cond-true (accesses_by_sp site.insn.op) (beyond stack (option_and_then (λ o. lowest_byte o site.insn.op) (one_offset m))) None t) ∙ e)) in
               (over_everywhere flow_here map solved (lowest_in (slice_get sites i)) i m c.0 o b uses c.1).1
               (subst (λ q. lowest_in q c.0 ≡ Some o) (sym a) x.0, x.1)
           | inr f ↦ absurd (none-some o (sym (cond-false (accesses_by_sp site.insn.op) (beyond stack (option_and_then (λ o. lowest_byte o site.insn.op) (one_offset m))) None f) ∙ e))

@@ -5,5 +5,6 @@ pub mod HistoryLemmas
 pub mod JoinedLemmas
 pub mod LeastLemmas
 pub mod MergeLemmas
+pub mod ReturnLemmas
 pub mod StartLemmas
 pub mod StepLemmas

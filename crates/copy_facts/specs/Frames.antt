@@ -16,8 +16,8 @@ use Rattle.fact_lattice.specs.Flows.{IsSolved}
 use Rattle.arm_isa.specs.Writes.{is_return_form}
 use Rattle.fact_lattice.specs.Cells.{AbstractState, cell_of, one_offset, only_fact, same_cell}
 use Rattle.copy_facts.specs.declared.least.Found.{Found}
-use Rattle.copy_facts.specs.declared.frames.FrameRefusal.{FrameRefusal}
-use Rattle.copy_facts.specs.declared.frames.FrameRefusal.TheVariants as why
+use Rattle.copy_facts.specs.declared.following.FrameRefusal.{FrameRefusal}
+use Rattle.copy_facts.specs.declared.following.FrameRefusal.TheVariants as why
 use Rattle.copy_facts.specs.declared.sites.Site.{Site}
 use Rattle.copy_facts.specs.declared.tables.PointFacts.{PointFacts}
 use Rattle.copy_facts.specs.Tables.{IsTable}
@@ -143,3 +143,16 @@ IsOverNumber stack sites facts i o = over_in stack (slice_get sites i) (map_of f
 
 abbrev pub IsUnprovedNumber : List Site → List (Option PointFacts) → ℕ → ℤ → Type 0
 IsUnprovedNumber sites facts i o = (unproved_in (slice_get sites i) (map_of facts i) ≡ true) × (o ≡ pos 0)
+
+abbrev pub IsNoneOverFor : ℕ → ℕ → List Site → Type 0
+IsNoneOverFor stack start sites =
+    (image : ImageValue) (entry : ℕ) (ps : List Point) → AreFramePoints image entry ps start sites → NoneOver image entry stack
+
+abbrev pub IsNoneUnprovedFor : ℕ → ℕ → List Site → Type 0
+IsNoneUnprovedFor stack start sites =
+    (image : ImageValue) (entry : ℕ) (ps : List Point) → AreFramePoints image entry ps start sites
+    → NoneUnproved image entry stack
+
+abbrev pub IsNoneLostFor : ℕ → ℕ → List Site → Type 0
+IsNoneLostFor stack start sites =
+    (image : ImageValue) (entry : ℕ) (ps : List Point) → AreFramePoints image entry ps start sites → NoneLost image entry stack

@@ -7,7 +7,7 @@
 //! second brings nothing new. [`PointTable`] is the table of all points over which the search of `fact_lattice` merges.
 #![tactic(auto)]
 
-mod frames;
+mod following;
 mod joining;
 mod least;
 mod lookup;
@@ -18,7 +18,7 @@ mod start;
 mod stepping;
 mod tables;
 
-pub use frames::FrameRefusal;
+pub use following::{FrameRefusal, frames};
 pub use joining::join_points;
 pub use least::Found;
 pub use lookup::{find, put};

@@ -1,6 +1,6 @@
 use Rattle.std.proofs.Common.{◌-◌, ◌≤◌, length}
 use Rattle.std.specs.Prelude.{slice_get}
-use Rattle.copy_facts.specs.Frames.{IsLeastTo, IsOverNumber, IsUnprovedNumber, address_in}
+use Rattle.copy_facts.specs.Frames.{IsLeastTo, IsOverNumber, address_in}
 use Rattle.copy_facts.proofs.least.first_over.Given as goal
 
 abbrev pub invariant-loop-at : goal.invariant-loop-at

@@ -3,7 +3,7 @@ use Rattle.fact_lattice.specs.Flows.{Flow, IsLostAt}
 use Rattle.copy_facts.specs.Points.{flow_of}
 use Rattle.copy_facts.proofs.FlowLemmas.{regular}
 use Rattle.copy_facts.proofs.FrameLemmas.{flow_same, lost_refused, stop_lost}
-use Rattle.copy_facts.proofs.frames.solved.Goals as goal
+use Rattle.copy_facts.proofs.following.solved.Goals as goal
 
 pub solve-requires-clause-regular : goal.solve-requires-clause-regular
 solve-requires-clause-regular c = regular c.in-Ok.table.stack c.in-Ok.table.start c.in-Ok.table.sites.now
