@@ -5,6 +5,7 @@
 //! costs nothing until its words are stored. [`step_point`] gives the table after an instruction and looks only at the
 //! words that are in the table or that the instruction may change; [`join_points`] joins two tables, or says that the
 //! second brings nothing new. [`PointTable`] is the table of all points over which the search of `fact_lattice` merges.
+//! [`frames`] searches, and then says whether the use of the stack can be followed at all points.
 #![tactic(auto)]
 
 mod following;
