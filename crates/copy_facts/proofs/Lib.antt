@@ -5,6 +5,7 @@ pub mod HistoryLemmas
 pub mod JoinedLemmas
 pub mod LeastLemmas
 pub mod MergeLemmas
+pub mod QueryLemmas
 pub mod ReturnLemmas
 pub mod StartLemmas
 pub mod StepLemmas

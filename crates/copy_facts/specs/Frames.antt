@@ -8,14 +8,15 @@ use Rattle.control_flow.specs.Points.{Point, entry_point, last_return}
 use Rattle.control_flow.specs.Ways.{ways_from}
 use Rattle.path_facts.specs.Histories.{literal_of, wanted_fact}
 use Rattle.point_tables.specs.Targets.{AreTargets}
-use Rattle.path_facts.specs.Facts.{Source}
+use Rattle.path_facts.specs.Facts.{Fact, Location, Source}
 use Rattle.path_facts.specs.Facts.Source.{Nothing}
 use Rattle.path_facts.specs.Sources.{return_source}
 use Rattle.path_facts.specs.StackUse.{IsReturnUnproved, IsStackLost, IsStackOver, accesses_by_sp, lowest_byte}
 use Rattle.fact_lattice.specs.Flows.{IsSolved}
 use Rattle.arm_isa.specs.Writes.{is_return_form}
-use Rattle.fact_lattice.specs.Cells.{AbstractState, cell_of, one_offset, only_fact, same_cell}
+use Rattle.fact_lattice.specs.Cells.{AbstractState, cell_of, known_in, one_offset, only_fact, same_cell}
 use Rattle.copy_facts.specs.declared.least.Found.{Found}
+use Rattle.copy_facts.specs.declared.queries.KnownFact.{KnownFact}
 use Rattle.copy_facts.specs.declared.following.FrameRefusal.{FrameRefusal}
 use Rattle.copy_facts.specs.declared.following.FrameRefusal.TheVariants as why
 use Rattle.copy_facts.specs.declared.sites.Site.{Site}
@@ -156,3 +157,20 @@ IsNoneUnprovedFor stack start sites =
 abbrev pub IsNoneLostFor : ℕ → ℕ → List Site → Type 0
 IsNoneLostFor stack start sites =
     (image : ImageValue) (entry : ℕ) (ps : List Point) → AreFramePoints image entry ps start sites → NoneLost image entry stack
+
+-- the fact that all paths to a point give a location; nothing where the point wasn't reached
+abbrev pub known_at : Option AbstractState → Location → Option Fact
+known_at None location = None
+known_at (Some m) location = known_in (m.cell location)
+
+abbrev pub kept_at : Option AbstractState → ℕ → Bool
+kept_at None k = false
+kept_at (Some m) k = m.marked k
+
+abbrev pub offset_at : Option AbstractState → Option ℤ
+offset_at None = None
+offset_at (Some m) = one_offset m
+
+-- what a fact in code means
+abbrev pub fact_meant : KnownFact → Fact
+fact_meant k = record { origin = k.origin; constant = k.constant }
