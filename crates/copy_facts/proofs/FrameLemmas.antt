@@ -35,13 +35,16 @@ use Rattle.copy_facts.specs.Searching.{map_of}
 pub flow_same : (s t : ℕ) (x y : ℕ) (a b : List Site) → s ≡ t → x ≡ y → a ≡ b → flow_of s x a ≡ flow_of t y b
 flow_same s t x y a b e f g = λ j. flow_of (e j) (f j) (g j)
 
-some_site : (sites : List Site) (i : ℕ) → accesses_in (slice_get sites i) ≡ true → (site : Site) × (slice_get sites i ≡ Some site) × (accesses_by_sp site.insn.op ≡ true)
+some_site : (sites : List Site) (i : ℕ) → accesses_in (slice_get sites i) ≡ true → (site : Site) × (slice_get sites i ≡ Some site) ×
+    (accesses_by_sp site.insn.op ≡ true)
 some_site sites i e = opened (slice_get sites i) refl e where
-  opened : (o : Option Site) → slice_get sites i ≡ o → accesses_in o ≡ true → (site : Site) × (slice_get sites i ≡ Some site) × (accesses_by_sp site.insn.op ≡ true)
+  opened : (o : Option Site) → slice_get sites i ≡ o → accesses_in o ≡ true → (site : Site) × (slice_get sites i ≡ Some site) ×
+      (accesses_by_sp site.insn.op ≡ true)
   opened None e f = absurd (false≢true f)
   opened (Some s) e f = (s, e, f)
 
-module _ (image : ImageValue) (entry stack start : ℕ) (ps : List Point) (sites : List Site) (a : AreFramePoints image entry ps start sites) where
+module _ (image : ImageValue) (entry stack start : ℕ) (ps : List Point) (sites : List Site)
+    (a : AreFramePoints image entry ps start sites) where
   abbrev flow : Flow
   flow = flow_of stack start sites
 
@@ -53,7 +56,8 @@ module _ (image : ImageValue) (entry stack start : ℕ) (ps : List Point) (sites
   forth = to_points image entry stack start ps sites a.each a.long a.inside a.starts a.begins
 
   abbrev back : (k : List (Taken Point)) (p : Point) → IsHistoryOf image entry k p
-      → (i : ℕ) × (i < length sites) × (point i ≡ p) × (h : List (Taken ℕ)) × IsHistoryIn flow h i × (facts_in flow h ≡ facts_of image stack k)
+      → (i : ℕ) × (i < length sites) × (point i ≡ p) × (h : List (Taken ℕ)) × IsHistoryIn flow h i ×
+      (facts_in flow h ≡ facts_of image stack k)
   back = to_numbers image entry stack start ps sites a.each a.long a.inside a.starts a.begins
 
   one_number : (i j : ℕ) → i < length sites → j < length sites → point i ≡ point j → i ≡ j
@@ -77,12 +81,14 @@ module _ (image : ImageValue) (entry stack start : ℕ) (ps : List Point) (sites
     found (x ∷ xs) (suc i) l = found xs i (omega (arith, l))
 
   -- the instruction of a point is its site's
-  pub same_insn : (i : ℕ) (site : Site) (insn : Insn) → slice_get sites i ≡ Some site → instruction_at image (point i).address ≡ Some insn → insn ≡ site.insn
+  pub same_insn : (i : ℕ) (site : Site) (insn : Insn) → slice_get sites i ≡ Some site → instruction_at image (point i).address ≡ Some insn
+      → insn ≡ site.insn
   same_insn i site insn e f = same_Some insn site.insn (sym f ∙ (a.each.each i site e).insn)
 
   -- ---- lost
 
-  pub lost_point : (i : ℕ) → IsLostAt flow i → (site : Site) × (slice_get sites i ≡ Some site) × IsStackLost image entry stack (point i) × ((point i).address ≡ site.address)
+  pub lost_point : (i : ℕ) → IsLostAt flow i → (site : Site) × (slice_get sites i ≡ Some site) × IsStackLost image entry stack (point i) ×
+      ((point i).address ≡ site.address)
   lost_point i l =
       let s = some_site sites i l.accesses in
       let x = forth l.one i l.leads in
@@ -99,7 +105,8 @@ module _ (image : ImageValue) (entry stack start : ℕ) (ps : List Point) (sites
           leads_too = y.2;
           differ =
               subst (λ (f : Facts). (offset_of f ≡ None) ⊎ (offset_of f ≢ offset_of (facts_of image stack y.1))) (sym x.3)
-              (subst (λ (g : Facts). (offset_of (facts_in flow l.one) ≡ None) ⊎ (offset_of (facts_in flow l.one) ≢ offset_of g)) (sym y.3) l.differ);
+              (subst (λ (g : Facts). (offset_of (facts_in flow l.one) ≡ None) ⊎ (offset_of (facts_in flow l.one) ≢ offset_of g))
+              (sym y.3) l.differ);
         },
         sym (a.each.each i s.0 s.1).address,
       )
@@ -118,7 +125,8 @@ module _ (image : ImageValue) (entry stack start : ℕ) (ps : List Point) (sites
         leads_too = y.1;
         differ =
             subst (λ (f : Facts). (offset_of f ≡ None) ⊎ (offset_of f ≢ offset_of (facts_in flow y.0))) (sym x.2)
-            (subst (λ (g : Facts). (offset_of (facts_of image stack l.one) ≡ None) ⊎ (offset_of (facts_of image stack l.one) ≢ offset_of g)) (sym y.2) l.differ);
+            (subst (λ (g : Facts). (offset_of (facts_of image stack l.one) ≡ None) ⊎ (offset_of (facts_of image stack l.one) ≢ offset_of g))
+            (sym y.2) l.differ);
       }
 
   pub solved_none_lost : (map : ℕ → Option AbstractState) → IsSolved flow map → NoneLost image entry stack
@@ -143,7 +151,8 @@ module _ (image : ImageValue) (entry stack start : ℕ) (ps : List Point) (sites
         beyond = v.beyond;
       }
 
-  over_number : (p : Point) (o : ℤ) (v : IsStackOver image entry stack p o) (i : ℕ) → i < length sites → point i ≡ p → IsOverAt flow (lowest_in (slice_get sites i)) i o
+  over_number : (p : Point) (o : ℤ) (v : IsStackOver image entry stack p o) (i : ℕ) → i < length sites → point i ≡ p → IsOverAt flow
+      (lowest_in (slice_get sites i)) i o
   over_number p o v i b e =
       let s = site_at i b in
       let found = subst (λ (q : Point). instruction_at image q.address ≡ Some v.insn) (sym e) v.found in
@@ -156,7 +165,8 @@ module _ (image : ImageValue) (entry stack start : ℕ) (ps : List Point) (sites
         is =
             subst (λ q. option_and_then (lowest_in q) (offset_of (facts_in flow x.0)) ≡ Some o) (sym s.1)
             (subst (λ (f : Facts). option_and_then (λ o. lowest_byte o s.0.insn.op) (offset_of f) ≡ Some o) (sym x.2)
-            (subst (λ (n : Insn). option_and_then (λ o. lowest_byte o n.op) (offset_of (facts_of image stack v.history)) ≡ Some o) same v.at));
+            (subst (λ (n : Insn). option_and_then (λ o. lowest_byte o n.op) (offset_of (facts_of image stack v.history))
+            ≡ Some o) same v.at));
         beyond = v.beyond;
       }
 
@@ -164,7 +174,8 @@ module _ (image : ImageValue) (entry stack start : ℕ) (ps : List Point) (sites
       → (i : ℕ) × (i < length sites) × (point i ≡ p) × IsOverAt flow (lowest_in (slice_get sites i)) i o
   over_somewhere p o v = let n = number_of p v.history v.leads in (n.0, n.1, n.2, over_number p o v n.0 n.1 n.2)
 
-pub lost_refused : (image : ImageValue) (entry stack start : ℕ) (ps : List Point) (sites : List Site) → AreFramePoints image entry ps start sites → (i address : ℕ)
+pub lost_refused : (image : ImageValue) (entry stack start : ℕ) (ps : List Point) (sites : List Site)
+    → AreFramePoints image entry ps start sites → (i address : ℕ)
     → IsLostAt (flow_of stack start sites) i → ((site : Site) → slice_get sites i ≡ Some site → address ≡ site.address)
     → (p : Point) × IsStackLost image entry stack p × (p.address ≡ address)
 lost_refused image entry stack start ps sites a i address l is =
@@ -189,15 +200,17 @@ some_lowest z (Some y) stack e =
       less a b e = grind (arith, ints)
 
 lowest_some : (z : ℤ) (x : Option ℤ) (stack : ℕ) → x ≡ Some z → z <ℤ neg_ℤ (pos stack) → beyond stack x ≡ Some z
-lowest_some z x stack e l = ap (beyond stack) e ∙ cond-true (int_lt z (neg_ℤ (pos stack))) (Some z) None (test z (neg_ℤ (pos stack)) l) where
-  test : (a b : ℤ) → a <ℤ b → int_lt a b ≡ true
-  test a b l = grind (arith, ints)
+lowest_some z x stack e l = ap (beyond stack) e ∙ cond-true (int_lt z (neg_ℤ (pos stack))) (Some z) None
+    (test z (neg_ℤ (pos stack)) l) where
+      test : (a b : ℤ) → a <ℤ b → int_lt a b ≡ true
+      test a b l = grind (arith, ints)
 
 some_value : {A : Type 0} (o : Option A) → is_some o ≡ true → (x : A) × (o ≡ Some x)
 some_value None e = absurd (false≢true e)
 some_value (Some x) e = (x, refl)
 
-module _ (stack start : ℕ) (sites : List Site) (map : ℕ → Option AbstractState) (solved : IsSolved (flow_of stack start sites) map) (i : ℕ) where
+module _ (stack start : ℕ) (sites : List Site) (map : ℕ → Option AbstractState) (solved : IsSolved (flow_of stack start sites) map)
+    (i : ℕ) where
   abbrev flow_here : Flow
   flow_here = flow_of stack start sites
 
@@ -210,7 +223,8 @@ module _ (stack start : ℕ) (sites : List Site) (map : ℕ → Option AbstractS
   placed : (m : AbstractState) → map i ≡ Some m → accesses_in (slice_get sites i) ≡ true → (c : ℤ) × (one_offset m ≡ Some c)
   placed m e uses =
       let p = (if_some (map i) (IsClosedAt flow_here map i) m e (solved.closed i)).placed in
-      some_value (one_offset m) (elim (or_cases (not (accesses_in (slice_get sites i))) (is_some (one_offset m)) p) as (λ _. is_some (one_offset m) ≡ true) [
+      some_value (one_offset m)
+      (elim (or_cases (not (accesses_in (slice_get sites i))) (is_some (one_offset m)) p) as (λ _. is_some (one_offset m) ≡ true) [
         | inl a ↦ absurd (false≢true (sym (not-true (accesses_in (slice_get sites i)) a) ∙ uses))
         | inr b ↦ b
       ])
@@ -240,14 +254,18 @@ module _ (stack start : ℕ) (sites : List Site) (map : ℕ → Option AbstractS
               let c = placed m b uses in
               let x = some_lowest o (lowest_byte c.0 site.insn.op) stack
               (sym (ap (λ y. beyond stack (option_and_then (λ o. lowest_byte o site.insn.op) y)) c.1)
-              ∙ (sym (cond-true (accesses_by_sp site.insn.op) (beyond stack (option_and_then (λ o. lowest_byte o site.insn.op) (one_offset m))) None t) ∙ e)) in
+              ∙ (sym (cond-true (accesses_by_sp site.insn.op)
+              (beyond stack (option_and_then (λ o. lowest_byte o site.insn.op) (one_offset m))) None t) ∙ e)) in
               (over_everywhere flow_here map solved (lowest_in (slice_get sites i)) i m c.0 o b uses c.1).1
               (subst (λ q. lowest_in q c.0 ≡ Some o) (sym a) x.0, x.1)
-          | inr f ↦ absurd (none-some o (sym (cond-false (accesses_by_sp site.insn.op) (beyond stack (option_and_then (λ o. lowest_byte o site.insn.op) (one_offset m))) None f) ∙ e))
+          | inr f ↦ absurd (none-some o
+              (sym (cond-false (accesses_by_sp site.insn.op)
+              (beyond stack (option_and_then (λ o. lowest_byte o site.insn.op) (one_offset m))) None f) ∙ e))
         ]
 
 -- the refusal of an access below the stack's bytes
-module _ (image : ImageValue) (entry stack start : ℕ) (ps : List Point) (sites : List Site) (a : AreFramePoints image entry ps start sites) (facts : List (Option PointFacts))
+module _ (image : ImageValue) (entry stack start : ℕ) (ps : List Point) (sites : List Site) (a : AreFramePoints image entry ps start sites)
+    (facts : List (Option PointFacts))
     (solved : IsSolved (flow_of stack start sites) (map_of facts)) where
   pub over_found : (x : Found) → IsLeastTo (IsOverNumber stack sites facts) (λ i. address_in (slice_get sites i)) (length sites) (Some x)
       → IsLeastOver image entry stack x.address x.lowest
@@ -262,11 +280,14 @@ module _ (image : ImageValue) (entry stack start : ℕ) (ps : List Point) (sites
         least = λ p o w.
             let n = over_somewhere image entry stack start ps sites a p o w in
             let q = some_site sites n.0 n.3.accesses in
-            let address : address_in (slice_get sites n.0) ≡ p.address = ap address_in q.1 ∙ ((a.each.each n.0 q.0 q.1).address ∙ ap (λ (z : Point). z.address) n.2) in
-            subst (λ b. (x.address < b) ⊎ ((x.address ≡ b) × (x.lowest ≤ℤ o))) address (l.least n.0 o n.1 (over_to stack start sites (map_of facts) solved n.0 o n.3));
+            let address : address_in (slice_get sites n.0) ≡ p.address = ap address_in q.1 ∙
+            ((a.each.each n.0 q.0 q.1).address ∙ ap (λ (z : Point). z.address) n.2) in
+            subst (λ b. (x.address < b) ⊎ ((x.address ≡ b) × (x.lowest ≤ℤ o))) address
+            (l.least n.0 o n.1 (over_to stack start sites (map_of facts) solved n.0 o n.3));
       }
 
-  pub none_over : IsLeastTo (IsOverNumber stack sites facts) (λ i. address_in (slice_get sites i)) (length sites) None → NoneOver image entry stack
+  pub none_over : IsLeastTo (IsOverNumber stack sites facts) (λ i. address_in (slice_get sites i)) (length sites) None
+      → NoneOver image entry stack
   none_over l p o w =
       let n = over_somewhere image entry stack start ps sites a p o w in
       l.least n.0 o n.1 (over_to stack start sites (map_of facts) solved n.0 o n.3)

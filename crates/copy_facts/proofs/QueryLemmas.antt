@@ -21,12 +21,14 @@ use Rattle.copy_facts.proofs.FrameLemmas.{numbered, reached}
 use Rattle.copy_facts.proofs.HistoryLemmas.{to_points}
 
 -- a point that control reaches has a history
-walk_history : {A : Type 0} (ways : A → List (Way A)) (first : A) (n : ℕ) (p : A) → Walk (Goes ways) first p n → (h : List (Taken A)) × IsHistory ways first h p
+walk_history : {A : Type 0} (ways : A → List (Way A)) (first : A) (n : ℕ) (p : A) → Walk (Goes ways) first p n → (h : List (Taken A))
+    × IsHistory ways first h p
 walk_history ways first zero p e = ([], sym e)
 walk_history ways first (suc n) p w =
     let r = walk_history ways first n w.0 w.1 in (record { point = w.0; done = w.2.0 } ∷ r.0, (r.1, w.2.1))
 
-module _ (stack start : ℕ) (sites : List Site) (facts : List (Option PointFacts)) (f : AreFrames stack start sites facts) (image : ImageValue) (entry : ℕ) (ps : List Point)
+module _ (stack start : ℕ) (sites : List Site) (facts : List (Option PointFacts)) (f : AreFrames stack start sites facts)
+    (image : ImageValue) (entry : ℕ) (ps : List Point)
     (a : AreFramePoints image entry ps start sites) (i : ℕ) (l : i < length sites) where
   abbrev point : Point
   point = get_or ps i (entry_point entry)
@@ -41,7 +43,8 @@ module _ (stack start : ℕ) (sites : List Site) (facts : List (Option PointFact
       reached stack start sites (map_of facts) f.solved i h.0 h.1
 
   -- what each history of the number gives each history of the point gives
-  both_ways : (P : Facts → Type 0) → ((h : List (Taken ℕ)) → IsHistoryIn (flow_of stack start sites) h i → P (facts_in (flow_of stack start sites) h))
+  both_ways : (P : Facts → Type 0) →
+      ((h : List (Taken ℕ)) → IsHistoryIn (flow_of stack start sites) h i → P (facts_in (flow_of stack start sites) h))
       ↔ ((k : List (Taken Point)) → IsHistoryOf image entry k point → P (facts_of image stack k))
   both_ways P = (
     λ g k e. let h = numbered image entry stack start ps sites a i l k e in subst P h.2 (g h.0 h.1),
@@ -49,7 +52,8 @@ module _ (stack start : ℕ) (sites : List Site) (facts : List (Option PointFact
   )
 
   pub known_exactly : (location : Location) (k : Fact)
-      → (known_at (map_of facts i) location ≡ Some k) ↔ ((h : List (Taken Point)) → IsHistoryOf image entry h point → (facts_of image stack h).fact location ≡ Some k)
+      → (known_at (map_of facts i) location ≡ Some k) ↔
+      ((h : List (Taken Point)) → IsHistoryOf image entry h point → (facts_of image stack h).fact location ≡ Some k)
   known_exactly location k =
       let x = known_everywhere (flow_of stack start sites) (map_of facts) f.solved i there.0 there.1 location k in
       let b = both_ways (λ g. g.fact location ≡ Some k) in (
@@ -58,7 +62,8 @@ module _ (stack start : ℕ) (sites : List Site) (facts : List (Option PointFact
       )
 
   pub kept_exactly : (word : ℕ)
-      → (kept_at (map_of facts i) word ≡ true) ↔ ((h : List (Taken Point)) → IsHistoryOf image entry h point → (facts_of image stack h).marked word ≡ true)
+      → (kept_at (map_of facts i) word ≡ true) ↔
+      ((h : List (Taken Point)) → IsHistoryOf image entry h point → (facts_of image stack h).marked word ≡ true)
   kept_exactly word =
       let x = kept_everywhere (flow_of stack start sites) (map_of facts) f.solved i there.0 there.1 word in
       let b = both_ways (λ g. g.marked word ≡ true) in (
@@ -67,7 +72,8 @@ module _ (stack start : ℕ) (sites : List Site) (facts : List (Option PointFact
       )
 
   pub offset_exactly : (o : ℤ)
-      → (offset_at (map_of facts i) ≡ Some o) ↔ ((h : List (Taken Point)) → IsHistoryOf image entry h point → offset_of (facts_of image stack h) ≡ Some o)
+      → (offset_at (map_of facts i) ≡ Some o) ↔
+      ((h : List (Taken Point)) → IsHistoryOf image entry h point → offset_of (facts_of image stack h) ≡ Some o)
   offset_exactly o =
       let x = offset_everywhere (flow_of stack start sites) (map_of facts) f.solved i there.0 there.1 o in
       let b = both_ways (λ g. offset_of g ≡ Some o) in (

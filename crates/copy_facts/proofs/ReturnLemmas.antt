@@ -1,5 +1,6 @@
 -- Returns that aren't proved, by what all paths say and by histories.
-use Rattle.std.proofs.Common.{◌≡◌, refl, sym, ap, ◌∙◌, subst, ℕ, ◌<◌, ◌≤◌, ◌⊎◌, inl, inr, Bool, true, false, ℤ, pos, ◌≤ℤ◌, List, length, get_or, arith}
+use Rattle.std.proofs.Common.{◌≡◌, refl, sym, ap, ◌∙◌, subst, ℕ, ◌<◌, ◌≤◌, ◌⊎◌, inl, inr, Bool, true, false, ℤ, pos, ◌≤ℤ◌, List, length}
+use Rattle.std.proofs.Common.{get_or, arith}
 use Rattle.std.specs.Prelude.{◌≢◌, ◌↔◌, ◌&&◌, ◌==◌, not, Option, Some, None, slice_get}
 use Rattle.std.specs.Ordering.{int_eq}
 use Rattle.std.proofs.lemmas.Bool.{and_parts, cases_Bool, cond-false, cond-true, false≢true, not-true}
@@ -37,10 +38,13 @@ known_only k None e = absurd (none-some k e)
 known_only k (Some r) e =
     elim (cases_Bool (int_eq r.low r.high)) as (λ _. Some r ≡ only_fact (Some k)) [
       | inl t ↦
-          let s = same_Some (record { origin = r.origin; constant = r.low }) k (sym (cond-true (int_eq r.low r.high) (Some (record { origin = r.origin; constant = r.low })) None t) ∙ e) in
+          let s = same_Some (record { origin = r.origin; constant = r.low }) k
+          (sym (cond-true (int_eq r.low r.high) (Some (record { origin = r.origin; constant = r.low })) None t) ∙ e) in
           let h = eq_true r.low r.high t in
-          ap Some (same r (only k.origin k.constant) (ap (λ (f : Fact). f.origin) s) (ap (λ (f : Fact). f.constant) s) (sym h ∙ ap (λ (f : Fact). f.constant) s))
-      | inr f ↦ absurd (none-some k (sym (cond-false (int_eq r.low r.high) (Some (record { origin = r.origin; constant = r.low })) None f) ∙ e))
+          ap Some (same r (only k.origin k.constant) (ap (λ (f : Fact). f.origin) s) (ap (λ (f : Fact). f.constant) s)
+          (sym h ∙ ap (λ (f : Fact). f.constant) s))
+      | inr f ↦ absurd (none-some k
+          (sym (cond-false (int_eq r.low r.high) (Some (record { origin = r.origin; constant = r.low })) None f) ∙ e))
     ] where
       same : (r q : Range) → r.origin ≡ q.origin → r.low ≡ q.low → r.high ≡ q.high → r ≡ q
       same r q o l h = λ j. record { origin = o j; low = l j; high = h j }
@@ -78,7 +82,8 @@ return_even o q (op.Exchange this) r a = refl
 
 -- ---- a number and its point
 
-module _ (image : ImageValue) (entry stack start : ℕ) (ps : List Point) (sites : List Site) (a : AreFramePoints image entry ps start sites) (facts : List (Option PointFacts))
+module _ (image : ImageValue) (entry stack start : ℕ) (ps : List Point) (sites : List Site) (a : AreFramePoints image entry ps start sites)
+    (facts : List (Option PointFacts))
     (solved : IsSolved (flow_of stack start sites) (map_of facts)) where
   abbrev flow : Flow
   flow = flow_of stack start sites
@@ -89,10 +94,13 @@ module _ (image : ImageValue) (entry stack start : ℕ) (ps : List Point) (sites
   abbrev source : Site → Option ℤ → Source
   source site o = return_source o site.insn.op
 
-  law : (i : ℕ) (site : Site) (m : AbstractState) → slice_get sites i ≡ Some site → map_of facts i ≡ Some m → is_return_form site.insn ≡ true
-      → IsUnprovedAt flow (source site) (wanted_fact site.home) i ↔ (known_in (cell_of m (source site (one_offset m))) ≢ Some (wanted_fact site.home))
+  law : (i : ℕ) (site : Site) (m : AbstractState) → slice_get sites i ≡ Some site → map_of facts i ≡ Some m → is_return_form site.insn
+      ≡ true
+      → IsUnprovedAt flow (source site) (wanted_fact site.home) i ↔
+      (known_in (cell_of m (source site (one_offset m))) ≢ Some (wanted_fact site.home))
   law i site m e f r =
-      unproved_everywhere flow (map_of facts) solved i m f (source site) (λ o q u. return_even o q site.insn.op r (sym (ap accesses_in e) ∙ u)) (wanted_fact site.home)
+      unproved_everywhere flow (map_of facts) solved i m f (source site)
+      (λ o q u. return_even o q site.insn.op r (sym (ap accesses_in e) ∙ u)) (wanted_fact site.home)
 
   unproved_from : (i : ℕ) → unproved_in (slice_get sites i) (map_of facts i) ≡ true
       → (site : Site) × (slice_get sites i ≡ Some site) × IsReturnUnproved image entry stack (point i)
@@ -102,8 +110,11 @@ module _ (image : ImageValue) (entry stack start : ℕ) (ps : List Point) (sites
     opened None x m y e = absurd (false≢true e)
     opened (Some site) x None y e = absurd (false≢true e)
     opened (Some site) x (Some m) y e =
-        let p = and_parts (is_return_form site.insn) (not (same_cell (cell_of m (source site (one_offset m))) (only_fact (Some (wanted_fact site.home))))) e in
-        let u = (law i site m x y p.0).1 (not_same (cell_of m (source site (one_offset m))) (wanted_fact site.home) (not-true (same_cell (cell_of m (source site (one_offset m))) (only_fact (Some (wanted_fact site.home)))) p.1)) in
+        let p = and_parts (is_return_form site.insn)
+        (not (same_cell (cell_of m (source site (one_offset m))) (only_fact (Some (wanted_fact site.home))))) e in
+        let u = (law i site m x y p.0).1
+        (not_same (cell_of m (source site (one_offset m))) (wanted_fact site.home)
+        (not-true (same_cell (cell_of m (source site (one_offset m))) (only_fact (Some (wanted_fact site.home)))) p.1)) in
         let h = to_points image entry stack start ps sites a.each a.long a.inside a.starts a.begins u.history i u.leads in
         let here = a.each.each i site x in (
           site,
@@ -115,20 +126,24 @@ module _ (image : ImageValue) (entry stack start : ℕ) (ps : List Point) (sites
             history = h.1;
             leads = h.2;
             other =
-                subst (λ (f : Facts). fact_from f (source site (offset_of f)) ≢ Some (wanted_fact (last_return (point i).returns))) (sym h.3)
-                (subst (λ w. fact_from (facts_in flow u.history) (source site (offset_of (facts_in flow u.history))) ≢ Some (wanted_fact w)) here.home u.other);
+                subst (λ (f : Facts). fact_from f (source site (offset_of f)) ≢ Some (wanted_fact (last_return (point i).returns)))
+                (sym h.3)
+                (subst (λ w. fact_from (facts_in flow u.history) (source site (offset_of (facts_in flow u.history))) ≢ Some
+                (wanted_fact w)) here.home u.other);
           },
         )
 
   unproved_to : (p : Point) → IsReturnUnproved image entry stack p
-      → (i : ℕ) × (i < length sites) × (point i ≡ p) × (unproved_in (slice_get sites i) (map_of facts i) ≡ true) × (site : Site) × (slice_get sites i ≡ Some site)
+      → (i : ℕ) × (i < length sites) × (point i ≡ p) × (unproved_in (slice_get sites i) (map_of facts i) ≡ true) × (site : Site) ×
+      (slice_get sites i ≡ Some site)
   unproved_to p u =
       let n = number_of image entry stack start ps sites a p u.history u.leads in
       let i = n.0 in
       let s = site_at image entry stack start ps sites a i n.1 in
       let found = subst (λ (q : Point). instruction_at image q.address ≡ Some u.insn) (sym n.2) u.found in
       let same = same_insn image entry stack start ps sites a i s.0 u.insn s.1 found in
-      let h = numbered image entry stack start ps sites a i n.1 u.history (subst (λ q. IsHistoryOf image entry u.history q) (sym n.2) u.leads) in
+      let h = numbered image entry stack start ps sites a i n.1 u.history
+      (subst (λ q. IsHistoryOf image entry u.history q) (sym n.2) u.leads) in
       let m = reached stack start sites (map_of facts) solved i h.0 h.1 in
       let here = a.each.each i s.0 s.1 in
       let returns = subst (λ (x : Insn). is_return_form x ≡ true) same u.returns in
@@ -137,17 +152,23 @@ module _ (image : ImageValue) (entry stack start : ℕ) (ps : List Point) (sites
         leads = h.1;
         other =
             subst (λ (f : Facts). fact_from f (source s.0 (offset_of f)) ≢ Some (wanted_fact s.0.home)) (sym h.2)
-            (subst (λ w. fact_from (facts_of image stack u.history) (source s.0 (offset_of (facts_of image stack u.history))) ≢ Some (wanted_fact w)) (sym here.home)
-            (subst (λ (q : Point). fact_from (facts_of image stack u.history) (source s.0 (offset_of (facts_of image stack u.history))) ≢ Some (wanted_fact (last_return q.returns))) (sym n.2)
-            (subst (λ (x : Insn). fact_from (facts_of image stack u.history) (return_source (offset_of (facts_of image stack u.history)) x.op) ≢ Some (wanted_fact (last_return p.returns))) same u.other)));
+            (subst (λ w. fact_from (facts_of image stack u.history) (source s.0 (offset_of (facts_of image stack u.history))) ≢ Some
+            (wanted_fact w)) (sym here.home)
+            (subst (λ (q : Point). fact_from (facts_of image stack u.history)
+            (source s.0 (offset_of (facts_of image stack u.history))) ≢ Some (wanted_fact (last_return q.returns))) (sym n.2)
+            (subst (λ (x : Insn). fact_from (facts_of image stack u.history)
+            (return_source (offset_of (facts_of image stack u.history)) x.op) ≢ Some
+            (wanted_fact (last_return p.returns))) same u.other)));
       } in
-      let differ = not_known (cell_of m.0 (source s.0 (one_offset m.0))) (wanted_fact s.0.home) ((law i s.0 m.0 s.1 m.1 returns).0 unproved) in (
+      let differ = not_known (cell_of m.0 (source s.0 (one_offset m.0))) (wanted_fact s.0.home)
+      ((law i s.0 m.0 s.1 m.1 returns).0 unproved) in (
         i,
         n.1,
         n.2,
         ap (λ q. unproved_in q (map_of facts i)) s.1
             ∙ (ap (unproved_in (Some s.0)) m.1
-            ∙ both (is_return_form s.0.insn) (same_cell (cell_of m.0 (source s.0 (one_offset m.0))) (only_fact (Some (wanted_fact s.0.home)))) returns differ),
+            ∙ both (is_return_form s.0.insn)
+            (same_cell (cell_of m.0 (source s.0 (one_offset m.0))) (only_fact (Some (wanted_fact s.0.home)))) returns differ),
         s.0,
         s.1,
       ) where
@@ -165,12 +186,15 @@ module _ (image : ImageValue) (entry stack start : ℕ) (ps : List Point) (sites
         unproved = v.2;
         least = λ p w.
             let n = unproved_to p w in
-            let address : address_in (slice_get sites n.0) ≡ p.address = ap address_in n.5 ∙ ((a.each.each n.0 n.4 n.5).address ∙ ap (λ (z : Point). z.address) n.2) in
-            not_before x.address p.address x.lowest (pos 0) (subst (λ b. (x.address < b) ⊎ ((x.address ≡ b) × (x.lowest ≤ℤ pos 0))) address (l.least n.0 (pos 0) n.1 (n.3, refl)));
+            let address : address_in (slice_get sites n.0) ≡ p.address = ap address_in n.5 ∙
+            ((a.each.each n.0 n.4 n.5).address ∙ ap (λ (z : Point). z.address) n.2) in
+            not_before x.address p.address x.lowest (pos 0)
+            (subst (λ b. (x.address < b) ⊎ ((x.address ≡ b) × (x.lowest ≤ℤ pos 0))) address (l.least n.0 (pos 0) n.1 (n.3, refl)));
       } where
         not_before : (a b : ℕ) (z o : ℤ) → (a < b) ⊎ ((a ≡ b) × (z ≤ℤ o)) → a ≤ b
         not_before a b z o (inl l) = omega (arith, l)
         not_before a b z o (inr e) = let s = e.0 in omega (arith, s)
 
-  pub none_unproved : IsLeastTo (IsUnprovedNumber sites facts) (λ i. address_in (slice_get sites i)) (length sites) None → NoneUnproved image entry stack
+  pub none_unproved : IsLeastTo (IsUnprovedNumber sites facts) (λ i. address_in (slice_get sites i)) (length sites) None
+      → NoneUnproved image entry stack
   none_unproved l p w = let n = unproved_to p w in l.least n.0 (pos 0) n.1 (n.3, refl)

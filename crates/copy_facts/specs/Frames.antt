@@ -38,7 +38,8 @@ pub record AreSites (image : ImageValue) (entry : ℕ) (ps : List Point) (sites 
   pub each : (i : ℕ) (site : Site) → slice_get sites i ≡ Some site → IsSite image (get_or ps i (entry_point entry)) site
 
 -- the points of a function in a table: their numbers, and that of the entry
-pub record AreFramePoints (image : ImageValue) (entry : ℕ) (ps : List Point) (start : ℕ) (sites : List Site) : Type 0 where
+pub record AreFramePoints (image : ImageValue) (entry : ℕ) (ps : List Point) (start : ℕ)
+    (sites : List Site) : Type 0 where
   pub each : AreSites image entry ps sites
   pub long : length sites ≡ length ps
   pub starts : start < length sites
@@ -65,7 +66,8 @@ pub record IsLeastOver (image : ImageValue) (entry stack a : ℕ) (lowest : ℤ)
   pub at : Point
   pub there : at.address ≡ a
   pub over : IsStackOver image entry stack at lowest
-  pub least : (p : Point) (o : ℤ) → IsStackOver image entry stack p o → (a < p.address) ⊎ ((a ≡ p.address) × (lowest ≤ℤ o))
+  pub least : (p : Point) (o : ℤ) → IsStackOver image entry stack p o → (a < p.address) ⊎
+      ((a ≡ p.address) × (lowest ≤ℤ o))
 
 pub record IsLeastUnproved (image : ImageValue) (entry stack a : ℕ) : Type 0 where
   pub at : Point
@@ -87,7 +89,8 @@ NoneUnproved image entry stack = (p : Point) → IsReturnUnproved image entry st
 abbrev pub IsRefusedFrame : ImageValue → ℕ → ℕ → FrameRefusal → Type 0
 IsRefusedFrame image entry stack why.Memory = Unit {0}
 IsRefusedFrame image entry stack (why.Lost a) = (p : Point) × IsStackLost image entry stack p × (p.address ≡ a)
-IsRefusedFrame image entry stack (why.Over a lowest) = NoneLost image entry stack × IsLeastOver image entry stack a lowest
+IsRefusedFrame image entry stack (why.Over a lowest) = NoneLost image entry stack
+    × IsLeastOver image entry stack a lowest
 IsRefusedFrame image entry stack (why.Unproved a) =
     NoneLost image entry stack × NoneOver image entry stack × IsLeastUnproved image entry stack a
 
@@ -116,7 +119,8 @@ unproved_in None m = false
 unproved_in (Some site) None = false
 unproved_in (Some site) (Some m) =
     is_return_form site.insn
-    && not (same_cell (cell_of m (return_source (one_offset m) site.insn.op)) (only_fact (Some (wanted_fact site.home))))
+    && not (same_cell (cell_of m (return_source (one_offset m) site.insn.op))
+    (only_fact (Some (wanted_fact site.home))))
 
 abbrev pub address_in : Option Site → ℕ
 address_in None = 0
@@ -147,7 +151,8 @@ IsUnprovedNumber sites facts i o = (unproved_in (slice_get sites i) (map_of fact
 
 abbrev pub IsNoneOverFor : ℕ → ℕ → List Site → Type 0
 IsNoneOverFor stack start sites =
-    (image : ImageValue) (entry : ℕ) (ps : List Point) → AreFramePoints image entry ps start sites → NoneOver image entry stack
+    (image : ImageValue) (entry : ℕ) (ps : List Point) → AreFramePoints image entry ps start sites
+    → NoneOver image entry stack
 
 abbrev pub IsNoneUnprovedFor : ℕ → ℕ → List Site → Type 0
 IsNoneUnprovedFor stack start sites =
@@ -156,7 +161,8 @@ IsNoneUnprovedFor stack start sites =
 
 abbrev pub IsNoneLostFor : ℕ → ℕ → List Site → Type 0
 IsNoneLostFor stack start sites =
-    (image : ImageValue) (entry : ℕ) (ps : List Point) → AreFramePoints image entry ps start sites → NoneLost image entry stack
+    (image : ImageValue) (entry : ℕ) (ps : List Point) → AreFramePoints image entry ps start sites
+    → NoneLost image entry stack
 
 -- the fact that all paths to a point give a location; nothing where the point wasn't reached
 abbrev pub known_at : Option AbstractState → Location → Option Fact

@@ -1,6 +1,7 @@
 //! What all paths say of one point.
 
-ghost use Rattle.std.specs.Prelude.{◌≡◌, ◌↔◌, ℕ, ℤ, ◌<◌, true, List, Option, Some, None, get_or, length, option_map, IfSome};
+ghost use Rattle.std.specs.Prelude.{◌≡◌, ◌↔◌, ℕ, ℤ, ◌<◌, true, List, Option, Some, None, get_or, length, option_map};
+ghost use Rattle.std.specs.Prelude.{IfSome};
 ghost use Rattle.elf32_image.specs.Parts.{ImageValue};
 ghost use Rattle.control_flow.specs.Points.{Point, entry_point};
 ghost use Rattle.control_flow.specs.Routes.{Taken};
@@ -110,7 +111,8 @@ pub fn frames_are_exact()
         → AreFrames stack start sites facts → (image : ImageValue) (entry : ℕ) (ps : List Point)
         → AreFramePoints image entry ps start sites → (i : ℕ) → i < length sites → (location : LocationMeant) (k : Fact)
         → (known_at (map_of facts i) location ≡ Some k) ↔ ((h : List (Taken Point))
-        → IsHistoryOf image entry h (get_or ps i (entry_point entry)) → (facts_of image stack h).fact location ≡ Some k) }
+        → IsHistoryOf image entry h (get_or ps i (entry_point entry)) → (facts_of image stack h).fact location
+        ≡ Some k) }
     ensures kept { (stack start : ℕ) (sites : List SiteValue) (facts : List (Option PointFactsValue))
         → AreFrames stack start sites facts → (image : ImageValue) (entry : ℕ) (ps : List Point)
         → AreFramePoints image entry ps start sites → (i : ℕ) → i < length sites → (word : ℕ)

@@ -11,7 +11,8 @@ loop-at-preserved-then-not-unproved c =
     record {
       within = omega (arith, l);
       least =
-          unproved_skip c.args.sites.now c.args.facts.now c.loop-at.at c.loop-at.found _ (slice_get-get_or c.args.sites.now c.loop-at.at _ l) c.loop-at.invariant.least
+          unproved_skip c.args.sites.now c.args.facts.now c.loop-at.at c.loop-at.found _
+          (slice_get-get_or c.args.sites.now c.loop-at.at _ l) c.loop-at.invariant.least
           c.unproved_number-unproved.result c.unproved_number-unproved.ensures c.if-not-unproved.true;
     }
 
@@ -21,11 +22,14 @@ loop-at-preserved c =
     record {
       within = omega (arith, l);
       least =
-          unproved_on c.args.sites.now c.args.facts.now c.loop-at.at c.loop-at.found _ (slice_get-get_or c.args.sites.now c.loop-at.at _ l) c.loop-at.invariant.least
-          c.unproved_number-unproved.result c.unproved_number-unproved.ensures c.lesser-found.result c.if-not-unproved.false c.lesser-found.ensures;
+          unproved_on c.args.sites.now c.args.facts.now c.loop-at.at c.loop-at.found _
+          (slice_get-get_or c.args.sites.now c.loop-at.at _ l) c.loop-at.invariant.least
+          c.unproved_number-unproved.result c.unproved_number-unproved.ensures c.lesser-found.result c.if-not-unproved.false
+          c.lesser-found.ensures;
     }
 
 pub returns : goal.returns
 returns c =
-    least_of_all (IsUnprovedNumber c.args.sites.now c.args.facts.now) (λ i. address_in (slice_get c.args.sites.now i)) (length c.args.sites.now) c.loop-at.at c.loop-at.found
+    least_of_all (IsUnprovedNumber c.args.sites.now c.args.facts.now) (λ i. address_in (slice_get c.args.sites.now i))
+    (length c.args.sites.now) c.loop-at.at c.loop-at.found
     c.loop-at.invariant.least c.loop-at.invariant.within c.loop-at-test.false
