@@ -1,5 +1,6 @@
 -- Words in ascending lists: what is found there, and what writing one down at the end changes.
-use Rattle.std.proofs.Common.{◌≡◌, refl, sym, ap, ◌∙◌, subst, ℕ, zero, suc, ◌+◌, ◌<◌, ◌≤◌, ◌-◌, ◌/◌, ◌⊎◌, inl, inr, false, List, [], ◌∷◌, ◌++◌, length, get_or, arith}
+use Rattle.std.proofs.Common.{◌≡◌, refl, sym, ap, ◌∙◌, subst, ℕ, zero, suc, ◌+◌, ◌<◌, ◌≤◌, ◌-◌, ◌/◌, ◌⊎◌, inl, inr, false, List, [], ◌∷◌}
+use Rattle.std.proofs.Common.{◌++◌, length, get_or, arith}
 use Rattle.std.specs.Prelude.{◌≢◌, ◌==◌, ◌||◌, Option, Some, None, is_some, slice_get}
 use Rattle.std.proofs.lemmas.Bool.{cases_eq, cases_Bool, or_parts, cond-true, cond-false, eq-eqb, ne_eqb, true≢false}
 use Rattle.std.proofs.lemmas.Option.{same_Some, none-some, slice_get-get_or}
@@ -46,7 +47,8 @@ least_first a b [] r i w e = absurd (none-some w e)
 least_first a b (v ∷ ws) r zero w e = let h = r.0 in let s : v.word ≡ w.word = ap (λ x. x.word) (same_Some v w e) in omega (arith, h, s)
 least_first a b (v ∷ ws) r (suc i) w e = let h = r.0 in let g = least_first (suc v.word) b ws r.1 i w e in omega (arith, h, g)
 
-pub ascends : (a b : ℕ) (ws : List WordFacts) → RisesTo a b ws → (i j : ℕ) (v w : WordFacts) → i < j → slice_get ws i ≡ Some v → slice_get ws j ≡ Some w
+pub ascends : (a b : ℕ) (ws : List WordFacts) → RisesTo a b ws → (i j : ℕ) (v w : WordFacts) → i < j → slice_get ws i ≡ Some v
+    → slice_get ws j ≡ Some w
     → v.word < w.word
 ascends a b [] r i j v w l e f = absurd (none-some v e)
 ascends a b (u ∷ ws) r i zero v w l e f = absurd (omega (arith, l))
@@ -72,7 +74,8 @@ got_none (x ∷ xs) zero l = absurd (omega (arith, l))
 got_none (x ∷ xs) (suc i) l = got_none xs i (omega (arith, l))
 
 -- a word that stands nowhere isn't found
-pub not_found : (ws : List WordFacts) (k : ℕ) → ((j : ℕ) (v : WordFacts) → slice_get ws j ≡ Some v → v.word ≢ k) → entry_in ws k ≡ nothing_of k
+pub not_found : (ws : List WordFacts) (k : ℕ) → ((j : ℕ) (v : WordFacts) → slice_get ws j ≡ Some v → v.word ≢ k) → entry_in ws k
+    ≡ nothing_of k
 not_found [] k h = refl
 not_found (v ∷ ws) k h = head_passed v ws k (h 0 v refl) ∙ not_found ws k (λ j u f. h (suc j) u f)
 
@@ -87,7 +90,8 @@ smaller_before b ws m k r l s i w before e =
     let g = slice_get-get_or ws m (nothing_of 0) l in
     elim (cases_eq i m) as (λ _. w.word < k) [
       | inl same ↦
-          let one : w.word ≡ (get_or ws m (nothing_of 0)).word = ap (λ x. x.word) (same_Some w (get_or ws m (nothing_of 0)) (sym e ∙ (ap (slice_get ws) same ∙ g))) in
+          let one : w.word ≡ (get_or ws m (nothing_of 0)).word = ap (λ x. x.word)
+          (same_Some w (get_or ws m (nothing_of 0)) (sym e ∙ (ap (slice_get ws) same ∙ g))) in
           omega (arith, one, s)
       | inr other ↦
           let less = ascends 0 b ws r i m w (get_or ws m (nothing_of 0)) (omega (arith, before, other)) e g in omega (arith, less, s)
@@ -99,7 +103,8 @@ greater_after b ws m k r l s' i w after e =
     let g = slice_get-get_or ws m (nothing_of 0) l in
     elim (cases_eq i m) as (λ _. k ≤ w.word) [
       | inl same ↦
-          let one : w.word ≡ (get_or ws m (nothing_of 0)).word = ap (λ x. x.word) (same_Some w (get_or ws m (nothing_of 0)) (sym e ∙ (ap (slice_get ws) same ∙ g))) in
+          let one : w.word ≡ (get_or ws m (nothing_of 0)).word = ap (λ x. x.word)
+          (same_Some w (get_or ws m (nothing_of 0)) (sym e ∙ (ap (slice_get ws) same ∙ g))) in
           omega (arith, one, s')
       | inr other ↦
           let less = ascends 0 b ws r m i (get_or ws m (nothing_of 0)) w (apart m i after other) g e in omega (arith, less, s')
@@ -108,13 +113,16 @@ greater_after b ws m k r l s' i w after e =
       apart m i l n = grind arith
 
 -- the entry at the place is the word's, or there is none
-pub found_here : (ws : List WordFacts) (at k : ℕ) (w : WordFacts) → ((i : ℕ) (v : WordFacts) → i < at → slice_get ws i ≡ Some v → v.word < k)
+pub found_here : (ws : List WordFacts) (at k : ℕ) (w : WordFacts) →
+    ((i : ℕ) (v : WordFacts) → i < at → slice_get ws i ≡ Some v → v.word < k)
     → slice_get ws at ≡ Some w → w.word ≡ k → w ≡ entry_in ws k
 found_here ws at k w before e same =
     sym (ap (entry_in ws) (sym same) ∙ found_at ws at w e (λ j v l f. let h = before j v l f in omega (arith, h, same)))
 
-pub missing_here : (b : ℕ) (ws : List WordFacts) (at k : ℕ) (w : WordFacts) → RisesTo 0 b ws → ((i : ℕ) (v : WordFacts) → i < at → slice_get ws i ≡ Some v → v.word < k)
-    → ((i : ℕ) (v : WordFacts) → at ≤ i → slice_get ws i ≡ Some v → k ≤ v.word) → slice_get ws at ≡ Some w → w.word ≢ k → nothing_of k ≡ entry_in ws k
+pub missing_here : (b : ℕ) (ws : List WordFacts) (at k : ℕ) (w : WordFacts) → RisesTo 0 b ws →
+    ((i : ℕ) (v : WordFacts) → i < at → slice_get ws i ≡ Some v → v.word < k)
+    → ((i : ℕ) (v : WordFacts) → at ≤ i → slice_get ws i ≡ Some v → k ≤ v.word) → slice_get ws at ≡ Some w → w.word ≢ k → nothing_of k
+    ≡ entry_in ws k
 missing_here b ws at k w r before after e other =
     sym (not_found ws k (λ j v f same.
     let here = after at w (omega arith) e in
@@ -132,7 +140,8 @@ missing_here b ws at k w r before after e other =
       past : (j at : ℕ) → at ≤ j → j ≢ at → at < j
       past j at l n = grind arith
 
-pub missing_all : (ws : List WordFacts) (at k : ℕ) → ((i : ℕ) (v : WordFacts) → i < at → slice_get ws i ≡ Some v → v.word < k) → slice_get ws at ≡ None
+pub missing_all : (ws : List WordFacts) (at k : ℕ) → ((i : ℕ) (v : WordFacts) → i < at → slice_get ws i ≡ Some v → v.word < k)
+    → slice_get ws at ≡ None
     → nothing_of k ≡ entry_in ws k
 missing_all ws at k before e =
     sym (not_found ws k (λ j v f same.
@@ -187,7 +196,8 @@ empty_entry e h = same_entry e (or_parts (is_some e.cell) e.kept h).0 (or_parts 
   same_entry e a b = λ j. record { word = e.word; cell = none_of e.cell a j; kept = b j }
 
 -- what says nothing may be left out
-pub wider : (f : ℕ → WordFacts) (b c : ℕ) (ws : List WordFacts) → AreEntriesTo f b ws → b ≤ c → ((k : ℕ) → b ≤ k → k < c → f k ≡ nothing_of k)
+pub wider : (f : ℕ → WordFacts) (b c : ℕ) (ws : List WordFacts) → AreEntriesTo f b ws → b ≤ c →
+    ((k : ℕ) → b ≤ k → k < c → f k ≡ nothing_of k)
     → AreEntriesTo f c ws
 wider f b c ws t l none = record {
   rises = rises_wider 0 b c ws t.rises l;

@@ -22,7 +22,8 @@ use Rattle.copy_facts.specs.Searching.{locations_to, registers_to, stack_locatio
 
 -- ---- what the laws of fixed points ask
 
-even_in : (stack : ℕ) (site : Option Site) (d : Bool) (o q : Option ℤ) → accesses_in site ≡ false → step_in stack site d o ≡ step_in stack site d q
+even_in : (stack : ℕ) (site : Option Site) (d : Bool) (o q : Option ℤ) → accesses_in site ≡ false → step_in stack site d o
+    ≡ step_in stack site d q
 even_in stack None d o q e = refl
 even_in stack (Some site) true o q e =
     λ j. record {
@@ -31,7 +32,8 @@ even_in stack (Some site) true o q e =
     }
 even_in stack (Some site) false o q e = refl
 
-rises_in : (stack : ℕ) (site : Option Site) (d : Bool) (o : Option ℤ) (k : ℕ) → (step_in stack site d o).mark k false ≡ true → (step_in stack site d o).mark k true ≡ true
+rises_in : (stack : ℕ) (site : Option Site) (d : Bool) (o : Option ℤ) (k : ℕ) → (step_in stack site d o).mark k false ≡ true →
+    (step_in stack site d o).mark k true ≡ true
 rises_in stack None d o k e = refl
 rises_in stack (Some site) true o k e = marks_rise stack o site.insn.op k e
 rises_in stack (Some site) false o k e = refl
@@ -97,7 +99,8 @@ constant_ordered : (c : ℤ) (b : Bool) → IfSome {T = Range} (if b then Some (
 constant_ordered c true = omega (arith, ints)
 constant_ordered c false = tt
 
-source_ordered : (m : AbstractState) → ((p : Location) → IfSome (m.cell p) (λ r. r.low ≤ℤ r.high)) → (s : Source) → IfSome (cell_of m s) (λ r. r.low ≤ℤ r.high)
+source_ordered : (m : AbstractState) → ((p : Location) → IfSome (m.cell p) (λ r. r.low ≤ℤ r.high)) → (s : Source) → IfSome (cell_of m s)
+    (λ r. r.low ≤ℤ r.high)
 source_ordered m h Nothing = tt
 source_ordered m h (Constant c) = constant_ordered c (is_signed_word c)
 source_ordered m h (Sum r by) = shift_ordered (m.cell (Register r)) by (h (Register r))
@@ -107,19 +110,24 @@ source_ordered m h (IfMarked k) = if_ordered (m.marked k) (m.cell (StackWord k))
 done_located : (stack : ℕ) (site : Site) (o : Option ℤ) (m : AbstractState) (p : Location)
     → (cell_of m (source_of stack site.address site.literal o site.insn.op p) ≡ None) ⊎ Member p (stack_locations stack)
 done_located stack site o m (Register r) =
-    elim (cases_Bool (nat_lt r 15)) as (λ _. (cell_of m (source_of stack site.address site.literal o site.insn.op (Register r)) ≡ None) ⊎ Member (Register r) (stack_locations stack)) [
+    elim (cases_Bool (nat_lt r 15)) as
+    (λ _. (cell_of m (source_of stack site.address site.literal o site.insn.op (Register r)) ≡ None) ⊎ Member (Register r)
+    (stack_locations stack)) [
       | inl t ↦ inr (register_located (stack / 4) r (below r t))
       | inr f ↦ inl (ap (cell_of m) (cond-false (nat_lt r 15) _ Nothing f))
     ] where
       below : (r : ℕ) → nat_lt r 15 ≡ true → r < 15
       below r t = grind (arith, nat_tests)
 done_located stack site o m (StackWord k) =
-    elim (cases_Bool (is_tracked stack k)) as (λ _. (cell_of m (source_of stack site.address site.literal o site.insn.op (StackWord k)) ≡ None) ⊎ Member (StackWord k) (stack_locations stack)) [
+    elim (cases_Bool (is_tracked stack k)) as
+    (λ _. (cell_of m (source_of stack site.address site.literal o site.insn.op (StackWord k)) ≡ None) ⊎ Member (StackWord k)
+    (stack_locations stack)) [
       | inl t ↦ let x = tracked_is stack k t in inr (word_located (stack / 4) k x.0 x.1)
       | inr f ↦ inl (ap (cell_of m) (cond-false (is_tracked stack k) _ Nothing f))
     ]
 
-done_marked : (stack : ℕ) (site : Site) (o : Option ℤ) (b before : Bool) (k : ℕ) → ((b && mark_of stack o site.insn.op k before) ≡ false) ⊎ Member k (stack_words stack)
+done_marked : (stack : ℕ) (site : Site) (o : Option ℤ) (b before : Bool) (k : ℕ) →
+    ((b && mark_of stack o site.insn.op k before) ≡ false) ⊎ Member k (stack_words stack)
 done_marked stack site o b before k =
     elim (cases_Bool (is_tracked stack k)) as (λ _. ((b && mark_of stack o site.insn.op k before) ≡ false) ⊎ Member k (stack_words stack)) [
       | inl t ↦ let x = tracked_is stack k t in inr (word_listed (stack / 4) k x.0 x.1)
@@ -130,12 +138,14 @@ skipped_marked : (b before : Bool) (k : ℕ) (ws : List ℕ) → (before ≡ fal
 skipped_marked b before k ws (inl e) = inl (and_right b before e)
 skipped_marked b before k ws (inr m) = inr m
 
-pub formed_stepped : (stack : ℕ) (site : Site) (done : Bool) (o : Option ℤ) (m : AbstractState) → IsFormed (stack_locations stack) (stack_words stack) m
+pub formed_stepped : (stack : ℕ) (site : Site) (done : Bool) (o : Option ℤ) (m : AbstractState) → IsFormed (stack_locations stack)
+    (stack_words stack) m
     → IsFormed (stack_locations stack) (stack_words stack) (transferred stack (site_step stack site done o) m)
 formed_stepped stack site true o m f = record {
   ordered = λ p. source_ordered m f.ordered (source_of stack site.address site.literal o site.insn.op p);
   cells = λ p. done_located stack site o m p;
-  marks = λ k. done_marked stack site o (all_above stack (cell_of m (source_of stack site.address site.literal o site.insn.op (Register 13))) k) (m.marked k) k;
+  marks = λ k. done_marked stack site o
+      (all_above stack (cell_of m (source_of stack site.address site.literal o site.insn.op (Register 13))) k) (m.marked k) k;
 }
 formed_stepped stack site false o m f = record {
   ordered = λ p. f.ordered p;
@@ -143,7 +153,8 @@ formed_stepped stack site false o m f = record {
   marks = λ k. skipped_marked (all_above stack (m.cell (Register 13)) k) (m.marked k) k (stack_words stack) (f.marks k);
 }
 
-pub formed_in : (stack : ℕ) (site : Option Site) (done : Bool) (o : Option ℤ) (m : AbstractState) → IsFormed (stack_locations stack) (stack_words stack) m
+pub formed_in : (stack : ℕ) (site : Option Site) (done : Bool) (o : Option ℤ) (m : AbstractState) → IsFormed (stack_locations stack)
+    (stack_words stack) m
     → IsFormed (stack_locations stack) (stack_words stack) (transferred stack (step_in stack site done o) m)
 formed_in stack None done o m f = record {
   ordered = λ p. f.ordered p;
@@ -152,7 +163,8 @@ formed_in stack None done o m f = record {
 }
 formed_in stack (Some site) done o m f = formed_stepped stack site done o m f
 
-joined_none : (stack : ℕ) (c d : Option Range) (p : Location) (ls : List Location) → (c ≡ None) ⊎ Member p ls → (joined_cell stack c d ≡ None) ⊎ Member p ls
+joined_none : (stack : ℕ) (c d : Option Range) (p : Location) (ls : List Location) → (c ≡ None) ⊎ Member p ls →
+    (joined_cell stack c d ≡ None) ⊎ Member p ls
 joined_none stack c d p ls (inl e) = inl (ap (λ x. joined_cell stack x d) e)
 joined_none stack c d p ls (inr m) = inr m
 
@@ -160,7 +172,8 @@ joined_unmarked : (b before : Bool) (k : ℕ) (ws : List ℕ) → (b ≡ false) 
 joined_unmarked b before k ws (inl e) = inl (and_left b before e)
 joined_unmarked b before k ws (inr m) = inr m
 
-pub formed_joined : (stack : ℕ) (ls : List Location) (ws : List ℕ) (m n : AbstractState) → IsFormed ls ws m → IsFormed ls ws (joined stack m n)
+pub formed_joined : (stack : ℕ) (ls : List Location) (ws : List ℕ) (m n : AbstractState) → IsFormed ls ws m → IsFormed ls ws
+    (joined stack m n)
 formed_joined stack ls ws m n f = record {
   ordered = λ p. join_ordered stack (m.cell p) (n.cell p) (f.ordered p);
   cells = λ p. joined_none stack (m.cell p) (n.cell p) p ls (f.cells p);
@@ -169,7 +182,8 @@ formed_joined stack ls ws m n f = record {
 
 -- ---- the start
 
-start_ordered : (r : ℕ) (b : Bool) → IfSome (only_fact (if b then Some (record { origin = origin.AtStart r; constant = pos 0 }) else None)) (λ r. r.low ≤ℤ r.high)
+start_ordered : (r : ℕ) (b : Bool) → IfSome (only_fact (if b then Some (record { origin = origin.AtStart r; constant = pos 0 }) else None))
+    (λ r. r.low ≤ℤ r.high)
 start_ordered r true = omega (arith, ints)
 start_ordered r false = tt
 
@@ -185,7 +199,8 @@ formed_start stack = record {
 
   located : (p : Location) → ((state_of start_facts).cell p ≡ None) ⊎ Member p (stack_locations stack)
   located (Register r) =
-      elim (cases_Bool (nat_lt r 15)) as (λ _. ((state_of start_facts).cell (Register r) ≡ None) ⊎ Member (Register r) (stack_locations stack)) [
+      elim (cases_Bool (nat_lt r 15)) as
+      (λ _. ((state_of start_facts).cell (Register r) ≡ None) ⊎ Member (Register r) (stack_locations stack)) [
         | inl t ↦ inr (register_located (stack / 4) r (below r t))
         | inr f ↦ inl (ap only_fact (cond-false (nat_lt r 15) _ None f))
       ] where

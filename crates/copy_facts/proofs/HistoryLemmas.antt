@@ -1,5 +1,6 @@
 -- Histories of points and histories of their numbers are the same, with the same facts.
-use Rattle.std.proofs.Common.{◌≡◌, refl, sym, ap, ◌∙◌, subst, ℕ, zero, suc, ◌<◌, ◌≤◌, inl, inr, Bool, true, false, List, [], ◌∷◌, length, get_or, arith}
+use Rattle.std.proofs.Common.{◌≡◌, refl, sym, ap, ◌∙◌, subst, ℕ, zero, suc, ◌<◌, ◌≤◌, inl, inr, Bool, true, false, List, [], ◌∷◌, length}
+use Rattle.std.proofs.Common.{get_or, arith}
 use Rattle.std.specs.Prelude.{◌≢◌, ◌==◌, map, Contains, Option, Some, None, IfSome, slice_get}
 use Rattle.std.proofs.lemmas.Bool.{cases_eq, cond-false, cond-true, eq-eqb, false≢true, ne_eqb}
 use Rattle.std.proofs.lemmas.List.Elements.{Contains-append_cases, Contains-append_left, Contains-append_right}
@@ -64,10 +65,12 @@ way_is n e d (Some j) i h =
 way_back : (n : ℕ) (d : Bool) (o : Option ℕ) (i : ℕ) → o ≡ Some i → i ≢ n → Contains (way_in n d o) (way_to d i)
 way_back n d o i e other =
     subst (λ o. Contains (way_in n d o) (way_to d i)) (sym e)
-    (subst (λ to. Contains {X = Way ℕ} (record { done = d; to = to } ∷ []) (way_to d i)) (sym (cond-false (i == n) Exit (At i) (ne_eqb i n other))) (alone (way_to d i)))
+    (subst (λ to. Contains {X = Way ℕ} (record { done = d; to = to } ∷ []) (way_to d i))
+    (sym (cond-false (i == n) Exit (At i) (ne_eqb i n other))) (alone (way_to d i)))
 
 -- the same way by points
-numbered_is : (ps : List Point) (start : Point) (e d : Bool) (o : Option ℕ) (p : Point) → Contains (numbered_way ps start e o) (record { done = d; to = At p })
+numbered_is : (ps : List Point) (start : Point) (e d : Bool) (o : Option ℕ) (p : Point) → Contains (numbered_way ps start e o)
+    (record { done = d; to = At p })
     → (e ≡ d) × (i : ℕ) × (o ≡ Some i) × (i ≢ length ps) × (get_or ps i start ≡ p)
 numbered_is ps start e d None p h = absurd (nothing_in (record { done = d; to = At p }) h)
 numbered_is ps start e d (Some j) p h =
@@ -89,23 +92,27 @@ numbered_back : (ps : List Point) (start : Point) (d : Bool) (o : Option ℕ) (i
 numbered_back ps start d o i e other =
     subst (λ o. Contains (numbered_way ps start d o) (record { done = d; to = At (get_or ps i start) })) (sym e)
     (subst (λ to. Contains {X = Way Point} (record { done = d; to = to } ∷ []) (record { done = d; to = At (get_or ps i start) }))
-    (sym (cond-false (i == length ps) Exit (At (get_or ps i start)) (ne_eqb i (length ps) other))) (alone (record { done = d; to = At (get_or ps i start) })))
+    (sym (cond-false (i == length ps) Exit (At (get_or ps i start)) (ne_eqb i (length ps) other)))
+    (alone (record { done = d; to = At (get_or ps i start) })))
 
 -- ---- the ways from a point
 
-site_forward : (n : ℕ) (ps : List Point) (start : Point) (site : Site) (d : Bool) (i : ℕ) → n ≡ length ps → Contains (site_ways n site) (way_to d i)
+site_forward : (n : ℕ) (ps : List Point) (start : Point) (site : Site) (d : Bool) (i : ℕ) → n ≡ length ps → Contains (site_ways n site)
+    (way_to d i)
     → Contains (numbered_ways ps start site.targets) (record { done = d; to = At (get_or ps i start) })
 site_forward n ps start site d i e h =
     elim (Contains-append_cases (way_in n true site.targets.done) (way_in n false site.targets.skipped) (way_to d i) h)
     as (λ _. Contains (numbered_ways ps start site.targets) (record { done = d; to = At (get_or ps i start) })) [
       | inl a ↦
           let w = way_is n true d site.targets.done i a in
-          Contains-append_left (numbered_way ps start true site.targets.done) (numbered_way ps start false site.targets.skipped) (record { done = d; to = At (get_or ps i start) })
+          Contains-append_left (numbered_way ps start true site.targets.done) (numbered_way ps start false site.targets.skipped)
+          (record { done = d; to = At (get_or ps i start) })
           (subst (λ b. Contains (numbered_way ps start true site.targets.done) (record { done = b; to = At (get_or ps i start) })) w.0
           (numbered_back ps start true site.targets.done i w.1 (λ t. w.2 (t ∙ sym e))))
       | inr a ↦
           let w = way_is n false d site.targets.skipped i a in
-          Contains-append_right (numbered_way ps start true site.targets.done) (numbered_way ps start false site.targets.skipped) (record { done = d; to = At (get_or ps i start) })
+          Contains-append_right (numbered_way ps start true site.targets.done) (numbered_way ps start false site.targets.skipped)
+          (record { done = d; to = At (get_or ps i start) })
           (subst (λ b. Contains (numbered_way ps start false site.targets.skipped) (record { done = b; to = At (get_or ps i start) })) w.0
           (numbered_back ps start false site.targets.skipped i w.1 (λ t. w.2 (t ∙ sym e))))
     ]
@@ -114,20 +121,23 @@ site_back : (n : ℕ) (ps : List Point) (start : Point) (site : Site) (d : Bool)
     → Contains (numbered_ways ps start site.targets) (record { done = d; to = At p })
     → (i : ℕ) × Contains (site_ways n site) (way_to d i) × (get_or ps i start ≡ p)
 site_back n ps start site d p e h =
-    elim (Contains-append_cases (numbered_way ps start true site.targets.done) (numbered_way ps start false site.targets.skipped) (record { done = d; to = At p }) h)
+    elim (Contains-append_cases (numbered_way ps start true site.targets.done) (numbered_way ps start false site.targets.skipped)
+    (record { done = d; to = At p }) h)
     as (λ _. (i : ℕ) × Contains (site_ways n site) (way_to d i) × (get_or ps i start ≡ p)) [
       | inl a ↦
           let w = numbered_is ps start true d site.targets.done p a in (
             w.1,
             Contains-append_left (way_in n true site.targets.done) (way_in n false site.targets.skipped) (way_to d w.1)
-                (subst (λ b. Contains (way_in n true site.targets.done) (way_to b w.1)) w.0 (way_back n true site.targets.done w.1 w.2 (λ t. w.3 (t ∙ e)))),
+                (subst (λ b. Contains (way_in n true site.targets.done) (way_to b w.1)) w.0
+                (way_back n true site.targets.done w.1 w.2 (λ t. w.3 (t ∙ e)))),
             w.4,
           )
       | inr a ↦
           let w = numbered_is ps start false d site.targets.skipped p a in (
             w.1,
             Contains-append_right (way_in n true site.targets.done) (way_in n false site.targets.skipped) (way_to d w.1)
-                (subst (λ b. Contains (way_in n false site.targets.skipped) (way_to b w.1)) w.0 (way_back n false site.targets.skipped w.1 w.2 (λ t. w.3 (t ∙ e)))),
+                (subst (λ b. Contains (way_in n false site.targets.skipped) (way_to b w.1)) w.0
+                (way_back n false site.targets.skipped w.1 w.2 (λ t. w.3 (t ∙ e)))),
             w.4,
           )
     ]
@@ -147,7 +157,8 @@ way_below n site d i s h =
 pub site_facts : (image : ImageValue) (stack : ℕ) (p : Point) (site : Site) (d : Bool) (f g : Facts) → IsSite image p site → f ≡ g
     → facts_through image stack p.address (instruction_at image p.address) d f ≡ after stack (site_step stack site d (offset_of g)) g
 site_facts image stack p site d f g s e =
-    ap (λ o. facts_through image stack p.address o d f) s.insn ∙ (ap (λ h. facts_through image stack p.address (Some site.insn) d h) e ∙ step d) where
+    ap (λ o. facts_through image stack p.address o d f) s.insn ∙
+    (ap (λ h. facts_through image stack p.address (Some site.insn) d h) e ∙ step d) where
       step : (d : Bool) → facts_through image stack p.address (Some site.insn) d g ≡ after stack (site_step stack site d (offset_of g)) g
       step true =
           λ j. without_marks_below stack (facts_done stack (sym s.address j) (sym s.literal j) site.insn.op g)
@@ -173,7 +184,8 @@ module _ (image : ImageValue) (entry stack start : ℕ) (ps : List Point) (sites
   mapped f (y ∷ xs) zero x e = ap (λ o. Some (f o)) (same_Some y x e)
   mapped f (y ∷ xs) (suc i) x e = mapped f xs i x e
 
-  ways_are : (i : ℕ) (site : Site) → slice_get sites i ≡ Some site → ways_from image entry (point i) ≡ numbered_ways ps (entry_point entry) site.targets
+  ways_are : (i : ℕ) (site : Site) → slice_get sites i ≡ Some site → ways_from image entry (point i) ≡ numbered_ways ps
+      (entry_point entry) site.targets
   ways_are i site e = a.table.ahead i site.targets (mapped (λ (s : Site). s.targets) sites i site e)
 
   one_step : (i : ℕ) (site : Site) (d : Bool) (f g : Facts) → slice_get sites i ≡ Some site → f ≡ g
@@ -184,7 +196,8 @@ module _ (image : ImageValue) (entry stack start : ℕ) (ps : List Point) (sites
 
   -- each history of numbers is one of points
   pub to_points : (h : List (Taken ℕ)) (i : ℕ) → IsHistoryIn (flow_of stack start sites) h i
-      → (i < length sites) × (k : List (Taken Point)) × IsHistoryOf image entry k (point i) × (facts_of image stack k ≡ facts_in (flow_of stack start sites) h)
+      → (i < length sites) × (k : List (Taken Point)) × IsHistoryOf image entry k (point i) ×
+      (facts_of image stack k ≡ facts_in (flow_of stack start sites) h)
   to_points [] i e = (subst (λ x. x < length sites) (sym e) starts, [], ap point e ∙ begins, refl)
   to_points (x ∷ h) i e =
       let r = to_points h x.point e.0 in
@@ -209,7 +222,8 @@ module _ (image : ImageValue) (entry stack start : ℕ) (ps : List Point) (sites
       let r = to_numbers k x.point e.0 in
       let s = site_at r.0 r.1 in
       let ways = ap (ways_from image entry) (sym r.2) ∙ ways_are r.0 s.0 s.1 in
-      let way = site_back (length sites) ps (entry_point entry) s.0 x.done p long (subst (λ ws. Contains ws (record { done = x.done; to = At p })) ways e.1) in (
+      let way = site_back (length sites) ps (entry_point entry) s.0 x.done p long
+      (subst (λ ws. Contains ws (record { done = x.done; to = At p })) ways e.1) in (
         way.0,
         way_below (length sites) s.0 x.done way.0 (inside r.0 s.0 s.1) way.1,
         way.2,

@@ -1,5 +1,6 @@
 -- Tables of a point that are joined entry by entry.
-use Rattle.std.proofs.Common.{◌≡◌, refl, sym, ap, ◌∙◌, subst, ℕ, zero, suc, ◌+◌, ◌<◌, ◌≤◌, ◌-◌, ◌⊎◌, inl, inr, Bool, true, false, List, [], ◌∷◌, length, set, get_or, drop, arith}
+use Rattle.std.proofs.Common.{◌≡◌, refl, sym, ap, ◌∙◌, subst, ℕ, zero, suc, ◌+◌, ◌<◌, ◌≤◌, ◌-◌, ◌⊎◌, inl, inr, Bool, true, false, List, []}
+use Rattle.std.proofs.Common.{◌∷◌, length, set, get_or, drop, arith}
 use Rattle.std.specs.Prelude.{◌≢◌, ◌&&◌, ◌||◌, ◌^◌, not, Option, Some, None}
 use Rattle.std.specs.Ordering.{int_eq}
 use Rattle.std.proofs.lemmas.Bool.{and_parts, cases_eq, false≢true, or_parts, or_cases, not-true, not-false}
@@ -69,19 +70,22 @@ joining_begins stack ls rs out r e = record {
 }
 
 -- between the words of the first places and the next one there is none
-between : (stack : ℕ) (ls : List WordFacts) (i b : ℕ) (w : WordFacts) → drop i ls ≡ w ∷ drop (i + 1) ls → RisesTo b (2 ^ 32 - 1) (w ∷ drop (i + 1) ls)
+between : (stack : ℕ) (ls : List WordFacts) (i b : ℕ) (w : WordFacts) → drop i ls ≡ w ∷ drop (i + 1) ls → RisesTo b (2 ^ 32 - 1)
+    (w ∷ drop (i + 1) ls)
     → ((k : ℕ) → b ≤ k → entry_in ls k ≡ entry_in (drop i ls) k) → (k : ℕ) → b ≤ k → k < w.word → entry_in ls k ≡ nothing_of k
 between stack ls i b w d r left_at k from below =
     left_at k from ∙ (ap (λ ws. entry_in ws k) d ∙ none_below w.word (2 ^ 32 - 1) (w ∷ drop (i + 1) ls) k (omega arith, r.1) below)
 
-pub joining_goes_on : (stack : ℕ) (ls rs : List WordFacts) (i : ℕ) (out : List WordFacts) (changed : Bool) (w n : WordFacts) (same : Bool) (next : List WordFacts)
+pub joining_goes_on : (stack : ℕ) (ls rs : List WordFacts) (i : ℕ) (out : List WordFacts) (changed : Bool) (w n : WordFacts) (same : Bool)
+    (next : List WordFacts)
     → PartlyJoined stack ls rs i out changed → drop i ls ≡ w ∷ drop (i + 1) ls → n ≡ joined_entry stack w (entry_in rs w.word)
     → (same ≡ true → n ≡ w) → (same ≡ false → n ≢ w) → next ≡ with_entry out n
     → PartlyJoined stack ls rs (i + 1) next (changed || not same)
 joining_goes_on stack ls rs i out changed w n same next s d is yes' no' put =
     let f = λ (k : ℕ). joined_entry stack (entry_in ls k) (entry_in rs k) in
     let r : RisesTo s.bound (2 ^ 32 - 1) (w ∷ drop (i + 1) ls) = subst (RisesTo s.bound (2 ^ 32 - 1)) d s.rest in
-    let there : entry_in ls w.word ≡ w = s.left_at w.word r.0 ∙ (ap (λ ws. entry_in ws w.word) d ∙ head_found w (drop (i + 1) ls) w.word refl) in
+    let there : entry_in ls w.word ≡ w = s.left_at w.word r.0 ∙
+    (ap (λ ws. entry_in ws w.word) d ∙ head_found w (drop (i + 1) ls) w.word refl) in
     let named : n.word ≡ w.word = ap (λ x. x.word) is in
     let given : n ≡ f n.word = is ∙ (sym (ap (λ x. joined_entry stack x (entry_in rs w.word)) there) ∙ ap f (sym named)) in
     let gap = between stack ls i s.bound w d r s.left_at in
@@ -95,7 +99,8 @@ joining_goes_on stack ls rs i out changed w n same next s d is yes' no' put =
       rest = r.1;
       left_at = λ k from.
           let r0 = r.0 in
-          s.left_at k (omega (arith, r0, from)) ∙ (ap (λ ws. entry_in ws k) d ∙ head_passed w (drop (i + 1) ls) k (λ e. omega (arith, e, from)));
+          s.left_at k (omega (arith, r0, from)) ∙
+          (ap (λ ws. entry_in ws k) d ∙ head_passed w (drop (i + 1) ls) k (λ e. omega (arith, e, from)));
       same = λ e k below.
           let p = or_parts changed (not same) e in
           let one : n ≡ w = yes' (not-false same p.1) in
@@ -116,7 +121,8 @@ joining_goes_on stack ls rs i out changed w n same next s d is yes' no' put =
       three k b n l = grind arith
 
 -- all of them are joined
-module _ (stack : ℕ) (ls rs : List WordFacts) (i : ℕ) (out : List WordFacts) (changed : Bool) (s : PartlyJoined stack ls rs i out changed) (e : drop i ls ≡ []) where
+module _ (stack : ℕ) (ls rs : List WordFacts) (i : ℕ) (out : List WordFacts) (changed : Bool) (s : PartlyJoined stack ls rs i out changed)
+    (e : drop i ls ≡ []) where
   past : (k : ℕ) → s.bound ≤ k → entry_in ls k ≡ nothing_of k
   past k from = s.left_at k from ∙ ap (λ ws. entry_in ws k) e
 
@@ -145,7 +151,8 @@ module _ (stack : ℕ) (ls rs : List WordFacts) (i : ℕ) (out : List WordFacts)
 
 -- ---- registers
 
-pub record PartlyJoinedCells (stack : ℕ) (old other : List (Option Range)) (at : ℕ) (now : List (Option Range)) (changed : Bool) : Type 0 where
+pub record PartlyJoinedCells (stack : ℕ) (old other : List (Option Range)) (at : ℕ) (now : List (Option Range))
+    (changed : Bool) : Type 0 where
   pub within : at ≤ 15
   pub long : length now ≡ 15
   pub done : (r : ℕ) → r < at → get_or now r None ≡ joined_cell stack (get_or old r None) (get_or other r None)
@@ -163,7 +170,8 @@ cells_begin stack old other e = record {
   differs = λ e. absurd (false≢true e);
 }
 
-pub cells_go_on : (stack : ℕ) (old other : List (Option Range)) (at : ℕ) (now : List (Option Range)) (changed : Bool) (c : Option Range) (same : Bool)
+pub cells_go_on : (stack : ℕ) (old other : List (Option Range)) (at : ℕ) (now : List (Option Range)) (changed : Bool) (c : Option Range)
+    (same : Bool)
     → PartlyJoinedCells stack old other at now changed → at < 15 → c ≡ joined_cell stack (get_or now at None) (get_or other at None)
     → same ≡ same_cell c (get_or now at None) → PartlyJoinedCells stack old other (at + 1) (set now at c) (changed || not same)
 cells_go_on stack old other at now changed c same s l is test =
@@ -211,7 +219,8 @@ no_more [] r l = refl
 no_more (x ∷ xs) zero l = absurd (omega (arith, l))
 no_more (x ∷ xs) (suc r) l = no_more xs r (omega (arith, l))
 
-module _ (stack : ℕ) (old other : List (Option Range)) (at : ℕ) (now : List (Option Range)) (changed : Bool) (s : PartlyJoinedCells stack old other at now changed) (e : 15 ≤ at) where
+module _ (stack : ℕ) (old other : List (Option Range)) (at : ℕ) (now : List (Option Range)) (changed : Bool)
+    (s : PartlyJoinedCells stack old other at now changed) (e : 15 ≤ at) where
   cases_15 : (r : ℕ) → (r < at) ⊎ (15 ≤ r)
   cases_15 r = grind arith
 
@@ -222,7 +231,8 @@ module _ (stack : ℕ) (old other : List (Option Range)) (at : ℕ) (now : List 
   cells_joined r =
       elim (cases_15 r) as (λ _. get_or now r None ≡ joined_cell stack (get_or old r None) (get_or other r None)) [
         | inl l ↦ s.done r l
-        | inr g ↦ let l = s.long in no_more now r (omega (arith, l, g)) ∙ sym (ap (λ c. joined_cell stack c (get_or other r None)) (away r g))
+        | inr g ↦ let l = s.long in no_more now r (omega (arith, l, g)) ∙ sym
+            (ap (λ c. joined_cell stack c (get_or other r None)) (away r g))
       ]
 
   pub cells_same : changed ≡ false → (r : ℕ) → get_or now r None ≡ get_or old r None
@@ -249,20 +259,23 @@ module _ (stack : ℕ) (rs qs ns : List (Option Range)) (ws vs us : List WordFac
     each (Register r) = cells r
     each (StackWord k) = ap (λ x. x.cell) (entries k)
 
-  pub state_same : ((r : ℕ) → get_or ns r None ≡ get_or rs r None) → ((k : ℕ) → joined_entry stack (entry_in ws k) (entry_in vs k) ≡ entry_in ws k)
+  pub state_same : ((r : ℕ) → get_or ns r None ≡ get_or rs r None) →
+      ((k : ℕ) → joined_entry stack (entry_in ws k) (entry_in vs k) ≡ entry_in ws k)
       → joined stack (state_in rs ws) (state_in qs vs) ≡ state_in rs ws
   state_same a b = same_state (joined stack (state_in rs ws) (state_in qs vs)) (state_in rs ws) each (λ k. ap (λ x. x.kept) (b k)) where
     each : (p : Location) → (joined stack (state_in rs ws) (state_in qs vs)).cell p ≡ (state_in rs ws).cell p
     each (Register r) = sym (cells r) ∙ a r
     each (StackWord k) = ap (λ x. x.cell) (b k)
 
-  pub state_differs_by_register : (r : ℕ) × (get_or ns r None ≢ get_or rs r None) → joined stack (state_in rs ws) (state_in qs vs) ≢ state_in rs ws
+  pub state_differs_by_register : (r : ℕ) × (get_or ns r None ≢ get_or rs r None) → joined stack (state_in rs ws)
+      (state_in qs vs) ≢ state_in rs ws
   state_differs_by_register d h = d.1 (cells d.0 ∙ ap (λ m. m.cell (Register d.0)) h)
 
   pub state_differs_by_word : (k : ℕ) × (joined_entry stack (entry_in ws k) (entry_in vs k) ≢ entry_in ws k)
       → joined stack (state_in rs ws) (state_in qs vs) ≢ state_in rs ws
   state_differs_by_word d h =
-      d.1 (same_entry (joined_entry stack (entry_in ws d.0) (entry_in vs d.0)) (entry_in ws d.0) refl (ap (λ m. m.cell (StackWord d.0)) h) (ap (λ m. m.marked d.0) h))
+      d.1 (same_entry (joined_entry stack (entry_in ws d.0) (entry_in vs d.0)) (entry_in ws d.0) refl (ap (λ m. m.cell (StackWord d.0)) h)
+      (ap (λ m. m.marked d.0) h))
 
 pub drop_all : {A : Type 0} (xs : List A) (i : ℕ) → length xs ≤ i → drop i xs ≡ []
 drop_all [] zero l = refl

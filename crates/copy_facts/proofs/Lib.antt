@@ -3,6 +3,9 @@ pub mod FlowLemmas
 pub mod FrameLemmas
 pub mod HistoryLemmas
 pub mod JoinedLemmas
+pub mod LeastLemmas
 pub mod MergeLemmas
+pub mod QueryLemmas
+pub mod ReturnLemmas
 pub mod StartLemmas
 pub mod StepLemmas

@@ -1,6 +1,8 @@
 -- One way more that is met at a point, as a step of the search.
-use Rattle.std.proofs.Common.{◌≡◌, refl, sym, ap, ◌∙◌, subst, ℕ, zero, suc, ◌+◌, ◌<◌, ◌≤◌, inl, inr, Bool, true, false, List, [], ◌∷◌, length, get_or, arith}
-use Rattle.std.specs.Prelude.{◌≢◌, ◌==◌, if◌then◌else◌, Option, Some, None, IfSome, IfNone, IsSomeAnd, is_some, option_map, slice_get, slice_set}
+use Rattle.std.proofs.Common.{◌≡◌, refl, sym, ap, ◌∙◌, subst, ℕ, zero, suc, ◌+◌, ◌<◌, ◌≤◌, inl, inr, Bool, true, false, List, [], ◌∷◌}
+use Rattle.std.proofs.Common.{length, get_or, arith}
+use Rattle.std.specs.Prelude.{◌≢◌, ◌==◌, if◌then◌else◌, Option, Some, None, IfSome, IfNone, IsSomeAnd, is_some, option_map, slice_get}
+use Rattle.std.specs.Prelude.{slice_set}
 use Rattle.std.proofs.lemmas.Option.{same_Some, slice_get-get_or, get_or_from_slice_get}
 use Rattle.std.proofs.lemmas.Bool.{cases_eq, cond-false, cond-true, eq-eqb, false≢true, ne_eqb}
 use Rattle.std.proofs.lemmas.List.{get_or-set_same, get_or-set_other, length-set}
@@ -23,7 +25,8 @@ use Rattle.copy_facts.proofs.EntryLemmas.{got, got_none}
 use Rattle.copy_facts.proofs.FlowLemmas.{formed_in, formed_joined}
 
 pub replaces_by : (stack : ℕ) (old : Option PointFacts) (u : PointFacts) (next : AbstractState) (t : PointFacts) → old ≡ Some u → IsTable t
-    → state_of_point t ≡ joined stack (state_of_point u) next → joined stack (state_of_point u) next ≢ state_of_point u → Replaces stack old next t
+    → state_of_point t ≡ joined stack (state_of_point u) next → joined stack (state_of_point u) next ≢ state_of_point u
+    → Replaces stack old next t
 replaces_by stack old u next t e table same differs =
     subst (λ o. Replaces stack o next t) (sym e) (record {
       table = table;
@@ -53,7 +56,8 @@ set_long : {A : Type 0} (xs : List A) (i : ℕ) (x : A) → length (slice_set xs
 set_long xs i x = length-set xs i x
 
 map_set : (stack : ℕ) (facts : List (Option PointFacts)) (q : ℕ) (next : AbstractState) (t : PointFacts) → q < length facts
-    → state_of_point t ≡ joined_at stack (map_of facts q) next → (x : ℕ) → map_of (slice_set facts q (Some t)) x ≡ merged stack q next (map_of facts) x
+    → state_of_point t ≡ joined_at stack (map_of facts q) next → (x : ℕ) → map_of (slice_set facts q (Some t)) x ≡ merged stack q next
+    (map_of facts) x
 map_set stack facts q next t l is x =
     elim (cases_eq x q) as (λ _. map_of (slice_set facts q (Some t)) x ≡ merged stack q next (map_of facts) x) [
       | inl e ↦
@@ -69,21 +73,25 @@ map_set stack facts q next t l is x =
 abbrev pub changed_point : Bool → ℕ → Option ℕ
 changed_point changed j = if changed then Some j else None
 
-stays_within : (stack : ℕ) (o : Option AbstractState) (next : AbstractState) → IsSomeAnd o (λ m. joined stack m next ≡ m) → IsSomeAnd o (Within next)
+stays_within : (stack : ℕ) (o : Option AbstractState) (next : AbstractState) → IsSomeAnd o (λ m. joined stack m next ≡ m) → IsSomeAnd o
+    (Within next)
 stays_within stack None next h = h
 stays_within stack (Some m) next h = subst (Within next) h (within_right stack m next)
 
 module _ (stack start : ℕ) (sites : List Site) (facts : List (Option PointFacts)) (p way : ℕ) (done : Bool) (j : ℕ)
     (known : is_some (map_of facts p) ≡ true)
-    (going : slice_get (ways_in (length sites) (slice_get sites p)) way ≡ Some (record { done = done; to = place_in (length sites) j })) where
+    (going : slice_get (ways_in (length sites) (slice_get sites p)) way ≡ Some
+    (record { done = done; to = place_in (length sites) j })) where
   abbrev m : AbstractState
   m = (some_of (map_of facts p) known).0
 
   merged_by : (new : List (Option PointFacts)) (changed : Option ℕ)
-      → MergedBy (flow_of stack start sites) p (record { done = done; to = place_in (length sites) j }) m (map_of facts) (map_of new) changed
+      → MergedBy (flow_of stack start sites) p (record { done = done; to = place_in (length sites) j }) m (map_of facts)
+      (map_of new) changed
       → Merged (flow_of stack start sites) p way (map_of facts) (map_of new) changed
   merged_by new changed by =
-      subst (λ o. IfSome o (λ m. IfSome (slice_get (ways_in (length sites) (slice_get sites p)) way) (λ w. MergedBy (flow_of stack start sites) p w m (map_of facts) (map_of new) changed)))
+      subst (λ o. IfSome o (λ m. IfSome (slice_get (ways_in (length sites) (slice_get sites p)) way)
+      (λ w. MergedBy (flow_of stack start sites) p w m (map_of facts) (map_of new) changed)))
       (sym (some_of (map_of facts p) known).1)
       (subst (λ w. IfSome w (λ w. MergedBy (flow_of stack start sites) p w m (map_of facts) (map_of new) changed)) (sym going) by)
 
@@ -96,10 +104,12 @@ module _ (stack start : ℕ) (sites : List Site) (facts : List (Option PointFact
             (sym (cond-true (j == length sites) Exit (At j) (eq-eqb j (length sites) e))) tt,
       )
 
-  at_m : (next : AbstractState) → IfSome (map_of facts p) (λ m. next ≡ transferred stack (step_in stack (slice_get sites p) done (one_offset m)) m)
+  at_m : (next : AbstractState) → IfSome (map_of facts p)
+      (λ m. next ≡ transferred stack (step_in stack (slice_get sites p) done (one_offset m)) m)
       → next ≡ transferred stack (step_in stack (slice_get sites p) done (one_offset m)) m
   at_m next is =
-      if_some (map_of facts p) (λ m. next ≡ transferred stack (step_in stack (slice_get sites p) done (one_offset m)) m) m (some_of (map_of facts p) known).1 is
+      if_some (map_of facts p) (λ m. next ≡ transferred stack (step_in stack (slice_get sites p) done (one_offset m)) m) m
+      (some_of (map_of facts p) known).1 is
 
   pub next_formed : (next : AbstractState) → ArePoints stack sites facts
       → IfSome (map_of facts p) (λ m. next ≡ transferred stack (step_in stack (slice_get sites p) done (one_offset m)) m)
@@ -110,7 +120,8 @@ module _ (stack start : ℕ) (sites : List Site) (facts : List (Option PointFact
       (if_some (map_of facts p) (IsFormed (stack_locations stack) (stack_words stack)) m (some_of (map_of facts p) known).1 (a.formed p)))
 
   pub went_met : (new : List (Option PointFacts)) (next : AbstractState) (changed : Bool) → j ≢ length sites → j < length facts
-      → IfSome (map_of facts p) (λ m. next ≡ transferred stack (step_in stack (slice_get sites p) done (one_offset m)) m) → IsMet stack facts j next new changed
+      → IfSome (map_of facts p) (λ m. next ≡ transferred stack (step_in stack (slice_get sites p) done (one_offset m)) m)
+      → IsMet stack facts j next new changed
       → Merged (flow_of stack start sites) p way (map_of facts) (map_of new) (changed_point changed j)
   went_met new next true other l is met =
       merged_by new (Some j) (
@@ -131,13 +142,16 @@ module _ (stack start : ℕ) (sites : List Site) (facts : List (Option PointFact
 
 -- ---- the table stays in order, and gets lighter where it changes
 
-formed_joined_at : (stack : ℕ) (ls : List Location) (ws : List ℕ) (o : Option AbstractState) (next : AbstractState) → IfSome o (IsFormed ls ws) → IsFormed ls ws next
+formed_joined_at : (stack : ℕ) (ls : List Location) (ws : List ℕ) (o : Option AbstractState) (next : AbstractState) → IfSome o
+    (IsFormed ls ws) → IsFormed ls ws next
     → IsFormed ls ws (joined_at stack o next)
 formed_joined_at stack ls ws None next f g = g
 formed_joined_at stack ls ws (Some m) next f g = formed_joined stack ls ws m next f
 
-pub met_points : (stack : ℕ) (sites : List Site) (facts new : List (Option PointFacts)) (q : ℕ) (next : AbstractState) (changed : Bool) → ArePoints stack sites facts
-    → q < length facts → IsFormed (stack_locations stack) (stack_words stack) next → IsMet stack facts q next new changed → ArePoints stack sites new
+pub met_points : (stack : ℕ) (sites : List Site) (facts new : List (Option PointFacts)) (q : ℕ) (next : AbstractState) (changed : Bool)
+    → ArePoints stack sites facts
+    → q < length facts → IsFormed (stack_locations stack) (stack_words stack) next → IsMet stack facts q next new changed
+    → ArePoints stack sites new
 met_points stack sites facts new q next true a l f met =
     subst (ArePoints stack sites) (sym met.2) (record {
       small = a.small;
@@ -146,59 +160,77 @@ met_points stack sites facts new q next true a l f met =
       tables = λ p t e.
           elim (cases_eq p q) as (λ _. IsTable t) [
             | inl s ↦
-                subst IsTable (same_Some met.0 t (sym (get_set_same facts q (Some met.0) None l) ∙ (ap (λ x. get_or (slice_set facts q (Some met.0)) x None) (sym s) ∙ e))) met.1.table
+                subst IsTable (same_Some met.0 t
+                (sym (get_set_same facts q (Some met.0) None l) ∙
+                (ap (λ x. get_or (slice_set facts q (Some met.0)) x None) (sym s) ∙ e))) met.1.table
             | inr n ↦ a.tables p t (sym (get_set_other facts q p (Some met.0) None n) ∙ e)
           ];
       formed = λ p.
-          subst (λ o. IfSome o (IsFormed (stack_locations stack) (stack_words stack))) (sym (map_set stack facts q next met.0 l met.1.joined p))
-          (elim (cases_eq p q) as (λ _. IfSome (merged stack q next (map_of facts) p) (IsFormed (stack_locations stack) (stack_words stack))) [
+          subst (λ o. IfSome o (IsFormed (stack_locations stack) (stack_words stack)))
+          (sym (map_set stack facts q next met.0 l met.1.joined p))
+          (elim (cases_eq p q) as
+          (λ _. IfSome (merged stack q next (map_of facts) p) (IsFormed (stack_locations stack) (stack_words stack))) [
             | inl s ↦
-                subst (λ o. IfSome o (IsFormed (stack_locations stack) (stack_words stack))) (sym (merged_there stack q next (map_of facts) p s))
+                subst (λ o. IfSome o (IsFormed (stack_locations stack) (stack_words stack)))
+                (sym (merged_there stack q next (map_of facts) p s))
                 (formed_joined_at stack (stack_locations stack) (stack_words stack) (map_of facts q) next (a.formed q) f)
-            | inr n ↦ subst (λ o. IfSome o (IsFormed (stack_locations stack) (stack_words stack))) (sym (merged_away stack q next (map_of facts) p n)) (a.formed p)
+            | inr n ↦ subst (λ o. IfSome o (IsFormed (stack_locations stack) (stack_words stack)))
+                (sym (merged_away stack q next (map_of facts) p n)) (a.formed p)
           ]);
       inside = a.inside;
     })
 met_points stack sites facts new q next false a l f met = subst (ArePoints stack sites) (sym met.1) a
 
-lighter_set : (stack : ℕ) (facts : List (Option PointFacts)) (q : ℕ) (next : AbstractState) (t : PointFacts) → ((p : ℕ) → IfSome (map_of facts p) (IsFormed (stack_locations stack) (stack_words stack)))
-    → q < length facts → Replaces stack (get_or facts q None) next t → weight_of_points stack (slice_set facts q (Some t)) < weight_of_points stack facts
+lighter_set : (stack : ℕ) (facts : List (Option PointFacts)) (q : ℕ) (next : AbstractState) (t : PointFacts) →
+    ((p : ℕ) → IfSome (map_of facts p) (IsFormed (stack_locations stack) (stack_words stack)))
+    → q < length facts → Replaces stack (get_or facts q None) next t → weight_of_points stack
+    (slice_set facts q (Some t)) < weight_of_points stack facts
 lighter_set stack facts q next t formed l r =
     let light =
     elim (point_falls stack (stack_locations stack) (stack_words stack) (map_of facts q) next (formed q))
-    as (λ _. weight_at stack (stack_locations stack) (stack_words stack) (Some (joined_at stack (map_of facts q) next)) < weight_at stack (stack_locations stack) (stack_words stack) (map_of facts q)) [
+    as (λ _. weight_at stack (stack_locations stack) (stack_words stack) (Some (joined_at stack (map_of facts q) next)) < weight_at stack
+    (stack_locations stack) (stack_words stack) (map_of facts q)) [
       | inl s ↦ absurd (r.differs s.0)
       | inr k ↦ k
     ] in
     let less = merged_lighter stack (stack_locations stack) (stack_words stack) q next (map_of facts) (length facts) l light in
-    subst (λ n. weight_below stack (stack_locations stack) (stack_words stack) (map_of (slice_set facts q (Some t))) n < weight_of_points stack facts) (sym (set_long facts q (Some t)))
-    (subst (λ f. weight_below stack (stack_locations stack) (stack_words stack) f (length facts) < weight_of_points stack facts) (λ i x. sym (map_set stack facts q next t l r.joined x) i) less)
+    subst (λ n. weight_below stack (stack_locations stack) (stack_words stack)
+    (map_of (slice_set facts q (Some t))) n < weight_of_points stack facts) (sym (set_long facts q (Some t)))
+    (subst (λ f. weight_below stack (stack_locations stack) (stack_words stack) f (length facts) < weight_of_points stack facts)
+    (λ i x. sym (map_set stack facts q next t l r.joined x) i) less)
 
-pub met_less : (stack : ℕ) (sites : List Site) (facts new : List (Option PointFacts)) (q : ℕ) (next : AbstractState) (changed : Bool) → ArePoints stack sites facts
+pub met_less : (stack : ℕ) (sites : List Site) (facts new : List (Option PointFacts)) (q : ℕ) (next : AbstractState) (changed : Bool)
+    → ArePoints stack sites facts
     → q < length facts → IsMet stack facts q next new changed
     → (if is_some (changed_point changed q) then 1 else 0) + weight_of_points stack new ≤ weight_of_points stack facts
 met_less stack sites facts new q next true a l met =
     let less = lighter_set stack facts q next met.0 a.formed l met.1 in
     subst (λ f. 1 + weight_of_points stack f ≤ weight_of_points stack facts) (sym met.2) (omega (arith, less))
-met_less stack sites facts new q next false a l met = subst (λ f. 0 + weight_of_points stack f ≤ weight_of_points stack facts) (sym met.1) (omega arith)
+met_less stack sites facts new q next false a l met = subst (λ f. 0 + weight_of_points stack f ≤ weight_of_points stack facts) (sym met.1)
+    (omega arith)
 
 -- ---- what is known after the instruction at a point
 
-pub table_known : (facts : List (Option PointFacts)) (p : ℕ) (x : Option PointFacts) (t : PointFacts) → p < length facts → x ≡ get_or facts p x → x ≡ Some t
+pub table_known : (facts : List (Option PointFacts)) (p : ℕ) (x : Option PointFacts) (t : PointFacts) → p < length facts → x
+    ≡ get_or facts p x → x ≡ Some t
     → get_or facts p None ≡ Some t
 table_known facts p x t l e s = sym (same_got facts p x None l e) ∙ s
 
-pub next_is : (stack : ℕ) (sites : List Site) (facts : List (Option PointFacts)) (p : ℕ) (done : Bool) (site : Site) (t : PointFacts) (next : AbstractState)
+pub next_is : (stack : ℕ) (sites : List Site) (facts : List (Option PointFacts)) (p : ℕ) (done : Bool) (site : Site) (t : PointFacts)
+    (next : AbstractState)
     → get_or facts p None ≡ Some t → p < length sites → site ≡ get_or sites p site → next ≡ stepped_state stack site done t
     → IfSome (map_of facts p) (λ m. next ≡ transferred stack (step_in stack (slice_get sites p) done (one_offset m)) m)
 next_is stack sites facts p done site t next known l here is =
-    subst (λ o. IfSome (option_map state_of_point o) (λ m. next ≡ transferred stack (step_in stack (slice_get sites p) done (one_offset m)) m)) (sym known)
-    (subst (λ s. next ≡ transferred stack (step_in stack s done (one_offset (state_of_point t))) (state_of_point t)) (sym (got sites p site l here)) is)
+    subst (λ o. IfSome (option_map state_of_point o)
+    (λ m. next ≡ transferred stack (step_in stack (slice_get sites p) done (one_offset m)) m)) (sym known)
+    (subst (λ s. next ≡ transferred stack (step_in stack s done (one_offset (state_of_point t))) (state_of_point t))
+    (sym (got sites p site l here)) is)
 
 pub below_other : (j n l : ℕ) → j ≤ n → j ≢ n → l ≡ n → j < l
 below_other j n l a b c = grind arith
 
-pub no_way : (count p way : ℕ) (sites : List Site) (x : Option (Way ℕ)) → length sites ≤ p → way < length (ways_in count (slice_get sites p))
+pub no_way : (count p way : ℕ) (sites : List Site) (x : Option (Way ℕ)) → length sites ≤ p → way < length
+    (ways_in count (slice_get sites p))
     → slice_get (ways_in count (slice_get sites p)) way ≡ x
 no_way count p way sites x l w = absurd (nothing (subst (λ s. way < length (ways_in count s)) (got_none sites p l) w)) where
   nothing : way < 0 → ⊥

@@ -1,5 +1,6 @@
 -- The table with which the search begins.
-use Rattle.std.proofs.Common.{◌≡◌, refl, sym, ap, ◌∙◌, subst, ℕ, zero, suc, ◌<◌, ◌≤◌, ◌⊎◌, inl, inr, true, false, List, [], ◌∷◌, ◌++◌, length, get_or, arith}
+use Rattle.std.proofs.Common.{◌≡◌, refl, sym, ap, ◌∙◌, subst, ℕ, zero, suc, ◌<◌, ◌≤◌, ◌⊎◌, inl, inr, true, false, List, [], ◌∷◌, ◌++◌}
+use Rattle.std.proofs.Common.{length, get_or, arith}
 use Rattle.std.specs.Prelude.{◌≢◌, ◌==◌, ◌^◌, pos, nat_lt, Option, Some, None, IfSome, option_map, slice_get, slice_set}
 use Rattle.std.proofs.lemmas.Bool.{cases_eq, cond-false, cond-true, eq-eqb, ne_eqb}
 use Rattle.std.proofs.lemmas.Bool.Decides.{nat_tests}
@@ -36,7 +37,8 @@ pub all_own : (at : ℕ) (now : List (Option Range)) → PartlyStepped start_cel
 all_own at now s l r =
     elim (cases_15 r at l) as (λ _. get_or now r None ≡ start_cell r) [
       | inl b ↦ s.done r b
-      | inr g ↦ let long = s.long in no_more now r (omega (arith, long, g)) ∙ sym (ap only_fact (cond-false (nat_lt r 15) _ None (above r g)))
+      | inr g ↦ let long = s.long in no_more now r (omega (arith, long, g)) ∙ sym
+          (ap only_fact (cond-false (nat_lt r 15) _ None (above r g)))
     ] where
       cases_15 : (r at : ℕ) → 15 ≤ at → (r < at) ⊎ (15 ≤ r)
       cases_15 r at l = grind arith
@@ -49,7 +51,8 @@ all_own at now s l r =
       no_more (x ∷ xs) zero l = absurd (omega (arith, l))
       no_more (x ∷ xs) (suc r) l = no_more xs r (omega (arith, l))
 
-pub start_is : (rs : List (Option Range)) (ws : List WordFacts) → ((r : ℕ) → get_or rs r None ≡ start_cell r) → ws ≡ [] → state_in rs ws ≡ state_of start_facts
+pub start_is : (rs : List (Option Range)) (ws : List WordFacts) → ((r : ℕ) → get_or rs r None ≡ start_cell r) → ws ≡ [] → state_in rs ws
+    ≡ state_of start_facts
 start_is rs ws cells e = ap (state_in rs) e ∙ (λ j. record { cell = λ p. each p j; marked = λ k. false }) where
   each : (p : Location) → cell_in rs [] p ≡ (state_of start_facts).cell p
   each (Register r) = cells r
@@ -65,7 +68,8 @@ none_pushed (x ∷ xs) h (suc p) = none_pushed xs (λ q. h (suc q)) p
 
 -- ---- the table
 
-module _ (stack start : ℕ) (sites : List Site) (facts : List (Option PointFacts)) (t : PointFacts) (long : length facts ≡ length sites) (starts : start < length sites)
+module _ (stack start : ℕ) (sites : List Site) (facts : List (Option PointFacts)) (t : PointFacts) (long : length facts ≡ length sites)
+    (starts : start < length sites)
     (none : (p : ℕ) → get_or facts p None ≡ None) (table : IsTable t) (state : state_of_point t ≡ state_of start_facts) where
   there : get_or (slice_set facts start (Some t)) start None ≡ Some t
   there = get_or-set_same facts start (Some t) None (omega (arith, long, starts))
@@ -78,14 +82,17 @@ module _ (stack start : ℕ) (sites : List Site) (facts : List (Option PointFact
       elim (cases_eq x start) as (λ _. map_of (slice_set facts start (Some t)) x ≡ first_map (flow_of stack start sites) x) [
         | inl e ↦
             ap (map_of (slice_set facts start (Some t))) e
-            ∙ (ap (option_map state_of_point) there ∙ (ap Some state ∙ sym (cond-true (x == start) (Some (state_of start_facts)) None (eq-eqb x start e))))
-        | inr n ↦ ap (option_map state_of_point) (away x n) ∙ sym (cond-false (x == start) (Some (state_of start_facts)) None (ne_eqb x start n))
+            ∙ (ap (option_map state_of_point) there ∙
+            (ap Some state ∙ sym (cond-true (x == start) (Some (state_of start_facts)) None (eq-eqb x start e))))
+        | inr n ↦ ap (option_map state_of_point) (away x n) ∙ sym
+            (cond-false (x == start) (Some (state_of start_facts)) None (ne_eqb x start n))
       ]
 
   pub first_is : map_of (slice_set facts start (Some t)) ≡ first_map (flow_of stack start sites)
   first_is j x = first_at x j
 
-  pub first_points : stack < 2 ^ 31 → length sites < 2 ^ 32 → ((i : ℕ) (site : Site) → slice_get sites i ≡ Some site → IsInside (length sites) site)
+  pub first_points : stack < 2 ^ 31 → length sites < 2 ^ 32 →
+      ((i : ℕ) (site : Site) → slice_get sites i ≡ Some site → IsInside (length sites) site)
       → ArePoints stack sites (slice_set facts start (Some t))
   first_points small few inside = record {
     small = small;
@@ -97,11 +104,14 @@ module _ (stack start : ℕ) (sites : List Site) (facts : List (Option PointFact
           | inr n ↦ absurd (none-some u (sym (away p n) ∙ e))
         ];
     formed = λ p.
-        elim (cases_eq p start) as (λ _. IfSome (map_of (slice_set facts start (Some t)) p) (IsFormed (stack_locations stack) (stack_words stack))) [
+        elim (cases_eq p start) as
+        (λ _. IfSome (map_of (slice_set facts start (Some t)) p) (IsFormed (stack_locations stack) (stack_words stack))) [
           | inl s ↦
               subst (λ o. IfSome o (IsFormed (stack_locations stack) (stack_words stack)))
-              (sym (ap (map_of (slice_set facts start (Some t))) s ∙ (ap (option_map state_of_point) there ∙ ap Some state))) (formed_start stack)
-          | inr n ↦ subst (λ o. IfSome o (IsFormed (stack_locations stack) (stack_words stack))) (sym (ap (option_map state_of_point) (away p n))) tt
+              (sym (ap (map_of (slice_set facts start (Some t))) s ∙ (ap (option_map state_of_point) there ∙ ap Some state)))
+              (formed_start stack)
+          | inr n ↦ subst (λ o. IfSome o (IsFormed (stack_locations stack) (stack_words stack)))
+              (sym (ap (option_map state_of_point) (away p n))) tt
         ];
     inside = inside;
   }

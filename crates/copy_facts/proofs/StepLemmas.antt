@@ -1,5 +1,6 @@
 -- What is known after an instruction, by the parts of a table.
-use Rattle.std.proofs.Common.{◌≡◌, refl, sym, ap, ◌∙◌, subst, ℕ, zero, suc, ◌+◌, ◌<◌, ◌≤◌, ◌-◌, ◌⊎◌, inl, inr, Bool, true, false, ℤ, List, [], ◌∷◌, length, set, get_or, drop, arith}
+use Rattle.std.proofs.Common.{◌≡◌, refl, sym, ap, ◌∙◌, subst, ℕ, zero, suc, ◌+◌, ◌<◌, ◌≤◌, ◌-◌, ◌⊎◌, inl, inr, Bool, true, false, ℤ, List}
+use Rattle.std.proofs.Common.{[], ◌∷◌, length, set, get_or, drop, arith}
 use Rattle.std.specs.Prelude.{◌≢◌, ◌&&◌, ◌^◌, Option, None}
 use Rattle.std.proofs.lemmas.Bool.{and_right, cases_Bool, cases_eq, cond-false}
 use Rattle.std.proofs.lemmas.Bool.Decides.{nat_tests}
@@ -25,7 +26,8 @@ use Rattle.copy_facts.specs.Tables.{AreEntriesTo, RisesTo, cell_in, entry_in, no
 use Rattle.copy_facts.proofs.JoinedLemmas.{same_entry}
 
 -- a location after a done instruction
-pub done_cell : (stack : ℕ) (site : Site) (done : Bool) (m : AbstractState) (location : Location) (o : Option ℤ) (s : Source) (x : Option Range) → done ≡ true
+pub done_cell : (stack : ℕ) (site : Site) (done : Bool) (m : AbstractState) (location : Location) (o : Option ℤ) (s : Source)
+    (x : Option Range) → done ≡ true
     → o ≡ one_offset m → s ≡ source_of stack site.address site.literal o site.insn.op location → x ≡ cell_of m s
     → x ≡ cell_of m ((site_step stack site done (one_offset m)).source location)
 done_cell stack site done m location o s x d e f g =
@@ -33,7 +35,8 @@ done_cell stack site done m location o s x d e f g =
     (g ∙ ap (cell_of m) (f ∙ ap (λ p. source_of stack site.address site.literal p site.insn.op location) e))
 
 -- a word after a done instruction
-pub done_entry : (stack : ℕ) (site : Site) (done : Bool) (t : PointFacts) (k : ℕ) (sp : Option Range) (o : Option ℤ) (s : Source) (x : Option Range) (above mark : Bool)
+pub done_entry : (stack : ℕ) (site : Site) (done : Bool) (t : PointFacts) (k : ℕ) (sp : Option Range) (o : Option ℤ) (s : Source)
+    (x : Option Range) (above mark : Bool)
     → done ≡ true → sp ≡ (stepped_state stack site done t).cell (Register 13) → o ≡ one_offset (state_of_point t)
     → s ≡ source_of stack site.address site.literal o site.insn.op (StackWord k) → x ≡ cell_of (state_of_point t) s
     → above ≡ all_above stack sp k → mark ≡ mark_of stack o site.insn.op k (entry_in t.words.items k).kept
@@ -54,7 +57,8 @@ pub record PartlyStepped (f : ℕ → Option Range) (at : ℕ) (now : List (Opti
   pub long : length now ≡ 15
   pub done : (r : ℕ) → r < at → get_or now r None ≡ f r
 
-pub stepped_on : (f : ℕ → Option Range) (at : ℕ) (now : List (Option Range)) (c : Option Range) → PartlyStepped f at now → at < 15 → c ≡ f at
+pub stepped_on : (f : ℕ → Option Range) (at : ℕ) (now : List (Option Range)) (c : Option Range) → PartlyStepped f at now → at < 15 → c
+    ≡ f at
     → PartlyStepped f (at + 1) (set now at c)
 stepped_on f at now c s l is =
     record {
@@ -63,7 +67,8 @@ stepped_on f at now c s l is =
       done = λ r below.
           elim (cases_eq r at) as (λ _. get_or (set now at c) r None ≡ f r) [
             | inl e ↦
-                subst (λ x. get_or (set now at c) x None ≡ f x) (sym e) (get_or-set_same now at c None (let g = s.long in omega (arith, g, l)) ∙ is)
+                subst (λ x. get_or (set now at c) x None ≡ f x) (sym e)
+                (get_or-set_same now at c None (let g = s.long in omega (arith, g, l)) ∙ is)
             | inr n ↦ get_or-set_other now at r c None n ∙ s.done r (omega (arith, below, n))
           ];
     } where
@@ -98,7 +103,8 @@ stepped_all stack site done t at now e s l r =
 
 -- ---- words of which nothing was known and that aren't touched
 
-beside_cell : (m : AbstractState) (ch : StackChange) (k : ℕ) → m.cell (StackWord k) ≡ None → m.marked k ≡ false → cell_of m (source_beside ch k) ≡ None
+beside_cell : (m : AbstractState) (ch : StackChange) (k : ℕ) → m.cell (StackWord k) ≡ None → m.marked k ≡ false → cell_of m
+    (source_beside ch k) ≡ None
 beside_cell m change.Nothing k e f = e
 beside_cell m (change.Words first last) k e f = e
 beside_cell m change.Any k e f = refl
@@ -113,7 +119,8 @@ beside_mark change.Unmarked b e = e
 quiet_entry : (v : WordFacts) (k : ℕ) → v.word ≡ k → v.cell ≡ None → v.kept ≡ false → v ≡ nothing_of k
 quiet_entry v k a b c = same_entry v (nothing_of k) a b c
 
-pub quiet_done : (stack : ℕ) (site : Site) (t : PointFacts) (k : ℕ) (o : Option ℤ) (ch : StackChange) → o ≡ one_offset (state_of_point t) → stack < 2 ^ 31
+pub quiet_done : (stack : ℕ) (site : Site) (t : PointFacts) (k : ℕ) (o : Option ℤ) (ch : StackChange) → o ≡ one_offset (state_of_point t)
+    → stack < 2 ^ 31
     → ((stack a k : ℕ) (literal : Option ℕ) → stack < 2 ^ 31 → is_tracked stack k ≡ true → is_touched ch k ≡ false
     → source_of stack a literal o site.insn.op (StackWord k) ≡ source_beside ch k)
     → ((stack k : ℕ) (before : Bool) → stack < 2 ^ 31 → is_tracked stack k ≡ true → is_touched ch k ≡ false
@@ -132,7 +139,8 @@ quiet_done stack site t k o ch same small sources marks away none =
 
       cell : cell_of m (source_of stack site.address site.literal o site.insn.op (StackWord k)) ≡ None
       cell =
-          elim (cases_Bool (is_tracked stack k)) as (λ _. cell_of m (source_of stack site.address site.literal o site.insn.op (StackWord k)) ≡ None) [
+          elim (cases_Bool (is_tracked stack k)) as
+          (λ _. cell_of m (source_of stack site.address site.literal o site.insn.op (StackWord k)) ≡ None) [
             | inl there ↦
                 ap (cell_of m) (sources stack site.address k site.literal small there away)
                 ∙ beside_cell m ch k (ap (λ x. x.cell) none) (ap (λ x. x.kept) none)
@@ -146,10 +154,12 @@ quiet_done stack site t k o ch same small sources marks away none =
             | inr not_there ↦ cond-false (is_tracked stack k) _ false not_there
           ]
 
-pub quiet_skipped : (stack : ℕ) (site : Site) (t : PointFacts) (k : ℕ) → entry_in t.words.items k ≡ nothing_of k → stepped_entry stack site false t k ≡ nothing_of k
+pub quiet_skipped : (stack : ℕ) (site : Site) (t : PointFacts) (k : ℕ) → entry_in t.words.items k ≡ nothing_of k
+    → stepped_entry stack site false t k ≡ nothing_of k
 quiet_skipped stack site t k none =
     quiet_entry (stepped_entry stack site false t k) k refl (ap (λ x. x.cell) none)
-    (and_right (all_above stack ((stepped_state stack site false t).cell (Register 13)) k) (entry_in t.words.items k).kept (ap (λ x. x.kept) none))
+    (and_right (all_above stack ((stepped_state stack site false t).cell (Register 13)) k) (entry_in t.words.items k).kept
+    (ap (λ x. x.kept) none))
 
 -- ---- the words of a list between two words
 
@@ -163,7 +173,8 @@ pub record PartlyOld (f : ℕ → WordFacts) (old : List WordFacts) (from to i :
   pub place : (bound ≤ from) ⊎ (bound ≤ low)
   pub left_at : (k : ℕ) → bound ≤ k → k < to → entry_in old k ≡ entry_in (drop i old) k
 
-pub old_begins : (f : ℕ → WordFacts) (old : List WordFacts) (from to : ℕ) (out : List WordFacts) → RisesTo 0 (2 ^ 32 - 1) old → from ≤ to → AreEntriesTo f from out
+pub old_begins : (f : ℕ → WordFacts) (old : List WordFacts) (from to : ℕ) (out : List WordFacts) → RisesTo 0 (2 ^ 32 - 1) old → from ≤ to
+    → AreEntriesTo f from out
     → PartlyOld f old from to 0 out
 old_begins f old from to out r l e = record {
   bound = from;
@@ -176,7 +187,8 @@ old_begins f old from to out r l e = record {
   left_at = λ k a b. refl;
 }
 
-module _ (f : ℕ → WordFacts) (old : List WordFacts) (from to i : ℕ) (out : List WordFacts) (s : PartlyOld f old from to i out) (w : WordFacts)
+module _ (f : ℕ → WordFacts) (old : List WordFacts) (from to i : ℕ) (out : List WordFacts) (s : PartlyOld f old from to i out)
+    (w : WordFacts)
     (d : drop i old ≡ w ∷ drop (i + 1) old) where
   opened : RisesTo s.low (2 ^ 32 - 1) (w ∷ drop (i + 1) old)
   opened = subst (RisesTo s.low (2 ^ 32 - 1)) d s.rest
@@ -207,7 +219,8 @@ module _ (f : ℕ → WordFacts) (old : List WordFacts) (from to i : ℕ) (out :
   old_above l = passed (λ k a b e. omega (arith, l, b, e))
 
   pub old_written : ((k : ℕ) → from ≤ k → k < to → entry_in old k ≡ nothing_of k → f k ≡ nothing_of k) → from ≤ w.word → w.word < to
-      → (n : WordFacts) → n ≡ f w.word → n.word ≡ w.word → (next : List WordFacts) → next ≡ with_entry out n → PartlyOld f old from to (i + 1) next
+      → (n : WordFacts) → n ≡ f w.word → n.word ≡ w.word → (next : List WordFacts) → next ≡ with_entry out n → PartlyOld f old from to
+      (i + 1) next
   old_written quiet a b n is named next put = record {
     bound = suc w.word;
     low = suc w.word;
@@ -235,16 +248,19 @@ module _ (f : ℕ → WordFacts) (old : List WordFacts) (from to i : ℕ) (out :
     gap k c e =
         let g = s.from_le in
         quiet k (omega (arith, g, c)) (omega (arith, e, b))
-        (s.left_at k c (omega (arith, e, b)) ∙ (ap (λ ws. entry_in ws k) d ∙ none_below w.word (2 ^ 32 - 1) (w ∷ drop (i + 1) old) k (omega arith, opened.1) e))
+        (s.left_at k c (omega (arith, e, b)) ∙
+        (ap (λ ws. entry_in ws k) d ∙ none_below w.word (2 ^ 32 - 1) (w ∷ drop (i + 1) old) k (omega arith, opened.1) e))
 
-pub old_ends : (f : ℕ → WordFacts) (old : List WordFacts) (from to i : ℕ) (out : List WordFacts) → PartlyOld f old from to i out → drop i old ≡ []
+pub old_ends : (f : ℕ → WordFacts) (old : List WordFacts) (from to i : ℕ) (out : List WordFacts) → PartlyOld f old from to i out
+    → drop i old ≡ []
     → ((k : ℕ) → from ≤ k → k < to → entry_in old k ≡ nothing_of k → f k ≡ nothing_of k) → AreEntriesTo f to out
 old_ends f old from to i out s e quiet =
     wider f s.bound to out s.entries s.le_to (λ k a b.
     let g = s.from_le in quiet k (omega (arith, g, a)) b (s.left_at k a b ∙ ap (λ ws. entry_in ws k) e))
 
 -- one word more
-pub all_on : (f : ℕ → WordFacts) (k : ℕ) (out : List WordFacts) (n : WordFacts) (next : List WordFacts) → AreEntriesTo f k out → n ≡ f k → n.word ≡ k
+pub all_on : (f : ℕ → WordFacts) (k : ℕ) (out : List WordFacts) (n : WordFacts) (next : List WordFacts) → AreEntriesTo f k out → n ≡ f k
+    → n.word ≡ k
     → next ≡ with_entry out n → AreEntriesTo f (k + 1) next
 all_on f k out n next s is named put =
     subst (AreEntriesTo f (k + 1)) (sym put)
@@ -257,7 +273,8 @@ all_on f k out n next s is named put =
 pub no_entries : (f : ℕ → WordFacts) (out : List WordFacts) → out ≡ [] → AreEntriesTo f 0 out
 no_entries f out e = subst (AreEntriesTo f 0) (sym e) (record { rises = omega arith; entries = λ k l. absurd (omega (arith, l)) })
 
-pub all_entries : (f : ℕ → WordFacts) (old out : List WordFacts) (to : ℕ) → AreEntriesTo f (2 ^ 32 - 1) out → RisesTo 0 (2 ^ 32 - 1) old → to ≤ 2 ^ 32 - 1
+pub all_entries : (f : ℕ → WordFacts) (old out : List WordFacts) (to : ℕ) → AreEntriesTo f (2 ^ 32 - 1) out → RisesTo 0 (2 ^ 32 - 1) old
+    → to ≤ 2 ^ 32 - 1
     → ((k : ℕ) → to ≤ k → entry_in old k ≡ nothing_of k → f k ≡ nothing_of k) → (k : ℕ) → entry_in out k ≡ f k
 all_entries f old out to s r l quiet k =
     elim (cases_le k) as (λ _. entry_in out k ≡ f k) [

@@ -1,18 +1,24 @@
 -- What is known at the points of a function, by their histories, and why a function is refused.
+use Rattle.std.specs.Prelude.{◌==◌, ◌&&◌, ◌||◌, not, nat_lt, int_lt, if◌then◌else◌, pos, neg_ℤ, Bool, true, false}
+use Rattle.std.specs.Prelude.{IfSome, IsSomeAnd, option_and_then}
 use Rattle.std.specs.Prelude.{◌≡◌, ◌⊎◌, ℕ, ℤ, ◌≤ℤ◌, ◌<◌, ◌≤◌, List, map, get_or, slice_get, length, Option, Some, None}
 use Rattle.elf32_image.specs.Parts.{ImageValue}
 use Rattle.control_flow.specs.Instructions.{instruction_at}
 use Rattle.control_flow.specs.Points.{Point, entry_point, last_return}
 use Rattle.control_flow.specs.Ways.{ways_from}
-use Rattle.path_facts.specs.Histories.{literal_of}
+use Rattle.path_facts.specs.Histories.{literal_of, wanted_fact}
 use Rattle.point_tables.specs.Targets.{AreTargets}
-use Rattle.path_facts.specs.Facts.{Source}
+use Rattle.path_facts.specs.Facts.{Fact, Location, Source}
 use Rattle.path_facts.specs.Facts.Source.{Nothing}
 use Rattle.path_facts.specs.Sources.{return_source}
-use Rattle.path_facts.specs.StackUse.{IsReturnUnproved, IsStackLost, IsStackOver, lowest_byte}
+use Rattle.path_facts.specs.StackUse.{IsReturnUnproved, IsStackLost, IsStackOver, accesses_by_sp, lowest_byte}
 use Rattle.fact_lattice.specs.Flows.{IsSolved}
-use Rattle.copy_facts.specs.declared.frames.FrameRefusal.{FrameRefusal}
-use Rattle.copy_facts.specs.declared.frames.FrameRefusal.TheVariants as why
+use Rattle.arm_isa.specs.Writes.{is_return_form}
+use Rattle.fact_lattice.specs.Cells.{AbstractState, cell_of, known_in, one_offset, only_fact, same_cell}
+use Rattle.copy_facts.specs.declared.least.Found.{Found}
+use Rattle.copy_facts.specs.declared.queries.KnownFact.{KnownFact}
+use Rattle.copy_facts.specs.declared.following.FrameRefusal.{FrameRefusal}
+use Rattle.copy_facts.specs.declared.following.FrameRefusal.TheVariants as why
 use Rattle.copy_facts.specs.declared.sites.Site.{Site}
 use Rattle.copy_facts.specs.declared.tables.PointFacts.{PointFacts}
 use Rattle.copy_facts.specs.Tables.{IsTable}
@@ -32,7 +38,8 @@ pub record AreSites (image : ImageValue) (entry : ℕ) (ps : List Point) (sites 
   pub each : (i : ℕ) (site : Site) → slice_get sites i ≡ Some site → IsSite image (get_or ps i (entry_point entry)) site
 
 -- the points of a function in a table: their numbers, and that of the entry
-pub record AreFramePoints (image : ImageValue) (entry : ℕ) (ps : List Point) (start : ℕ) (sites : List Site) : Type 0 where
+pub record AreFramePoints (image : ImageValue) (entry : ℕ) (ps : List Point) (start : ℕ)
+    (sites : List Site) : Type 0 where
   pub each : AreSites image entry ps sites
   pub long : length sites ≡ length ps
   pub starts : start < length sites
@@ -59,7 +66,8 @@ pub record IsLeastOver (image : ImageValue) (entry stack a : ℕ) (lowest : ℤ)
   pub at : Point
   pub there : at.address ≡ a
   pub over : IsStackOver image entry stack at lowest
-  pub least : (p : Point) (o : ℤ) → IsStackOver image entry stack p o → (a < p.address) ⊎ ((a ≡ p.address) × (lowest ≤ℤ o))
+  pub least : (p : Point) (o : ℤ) → IsStackOver image entry stack p o → (a < p.address) ⊎
+      ((a ≡ p.address) × (lowest ≤ℤ o))
 
 pub record IsLeastUnproved (image : ImageValue) (entry stack a : ℕ) : Type 0 where
   pub at : Point
@@ -81,7 +89,8 @@ NoneUnproved image entry stack = (p : Point) → IsReturnUnproved image entry st
 abbrev pub IsRefusedFrame : ImageValue → ℕ → ℕ → FrameRefusal → Type 0
 IsRefusedFrame image entry stack why.Memory = Unit {0}
 IsRefusedFrame image entry stack (why.Lost a) = (p : Point) × IsStackLost image entry stack p × (p.address ≡ a)
-IsRefusedFrame image entry stack (why.Over a lowest) = NoneLost image entry stack × IsLeastOver image entry stack a lowest
+IsRefusedFrame image entry stack (why.Over a lowest) = NoneLost image entry stack
+    × IsLeastOver image entry stack a lowest
 IsRefusedFrame image entry stack (why.Unproved a) =
     NoneLost image entry stack × NoneOver image entry stack × IsLeastUnproved image entry stack a
 
@@ -89,3 +98,85 @@ abbrev pub IsRefusedFor : ℕ → ℕ → List Site → FrameRefusal → Type 0
 IsRefusedFor stack start sites why =
     (image : ImageValue) (entry : ℕ) (ps : List Point) → AreFramePoints image entry ps start sites
     → IsRefusedFrame image entry stack why
+
+-- an offset that lies below the stack's bytes
+abbrev pub beyond : ℕ → Option ℤ → Option ℤ
+beyond stack None = None
+beyond stack (Some z) = if int_lt z (neg_ℤ (pos stack)) then Some z else None
+
+-- the lowest byte of a point's access, where it lies below the stack's bytes, by what all paths say
+abbrev pub over_in : ℕ → Option Site → Option AbstractState → Option ℤ
+over_in stack None m = None
+over_in stack (Some site) None = None
+over_in stack (Some site) (Some m) =
+    if accesses_by_sp site.insn.op
+    then beyond stack (option_and_then (λ o. lowest_byte o site.insn.op) (one_offset m))
+    else None
+
+-- a return of which all paths don't say that it brings its own return address
+abbrev pub unproved_in : Option Site → Option AbstractState → Bool
+unproved_in None m = false
+unproved_in (Some site) None = false
+unproved_in (Some site) (Some m) =
+    is_return_form site.insn
+    && not (same_cell (cell_of m (return_source (one_offset m) site.insn.op))
+    (only_fact (Some (wanted_fact site.home))))
+
+abbrev pub address_in : Option Site → ℕ
+address_in None = 0
+address_in (Some site) = site.address
+
+-- what comes first by its address, and then by its offset
+abbrev pub lesser : Option Found → ℕ → ℤ → Option Found
+lesser None a z = Some (record { address = a; lowest = z })
+lesser (Some x) a z =
+    if nat_lt a x.address || ((a == x.address) && int_lt z x.lowest) then Some (record { address = a; lowest = z })
+    else Some x
+
+abbrev pub with_lowest : Option Found → ℕ → Option ℤ → Option Found
+with_lowest found a None = found
+with_lowest found a (Some z) = lesser found a z
+
+-- of the first n points what comes first of those that have the property
+pub record IsLeastTo (P : ℕ → ℤ → Type 0) (A : ℕ → ℕ) (n : ℕ) (found : Option Found) : Type 0 where
+  pub there : IfSome found (λ x. (i : ℕ) × (i < n) × P i x.lowest × (A i ≡ x.address))
+  pub least : (i : ℕ) (o : ℤ) → i < n → P i o
+      → IsSomeAnd found (λ x. (x.address < A i) ⊎ ((x.address ≡ A i) × (x.lowest ≤ℤ o)))
+
+abbrev pub IsOverNumber : ℕ → List Site → List (Option PointFacts) → ℕ → ℤ → Type 0
+IsOverNumber stack sites facts i o = over_in stack (slice_get sites i) (map_of facts i) ≡ Some o
+
+abbrev pub IsUnprovedNumber : List Site → List (Option PointFacts) → ℕ → ℤ → Type 0
+IsUnprovedNumber sites facts i o = (unproved_in (slice_get sites i) (map_of facts i) ≡ true) × (o ≡ pos 0)
+
+abbrev pub IsNoneOverFor : ℕ → ℕ → List Site → Type 0
+IsNoneOverFor stack start sites =
+    (image : ImageValue) (entry : ℕ) (ps : List Point) → AreFramePoints image entry ps start sites
+    → NoneOver image entry stack
+
+abbrev pub IsNoneUnprovedFor : ℕ → ℕ → List Site → Type 0
+IsNoneUnprovedFor stack start sites =
+    (image : ImageValue) (entry : ℕ) (ps : List Point) → AreFramePoints image entry ps start sites
+    → NoneUnproved image entry stack
+
+abbrev pub IsNoneLostFor : ℕ → ℕ → List Site → Type 0
+IsNoneLostFor stack start sites =
+    (image : ImageValue) (entry : ℕ) (ps : List Point) → AreFramePoints image entry ps start sites
+    → NoneLost image entry stack
+
+-- the fact that all paths to a point give a location; nothing where the point wasn't reached
+abbrev pub known_at : Option AbstractState → Location → Option Fact
+known_at None location = None
+known_at (Some m) location = known_in (m.cell location)
+
+abbrev pub kept_at : Option AbstractState → ℕ → Bool
+kept_at None k = false
+kept_at (Some m) k = m.marked k
+
+abbrev pub offset_at : Option AbstractState → Option ℤ
+offset_at None = None
+offset_at (Some m) = one_offset m
+
+-- what a fact in code means
+abbrev pub fact_meant : KnownFact → Fact
+fact_meant k = record { origin = k.origin; constant = k.constant }

@@ -1,6 +1,7 @@
 //! What is known after an instruction.
 
-ghost use Rattle.std.specs.Prelude.{◌≡◌, ◌⊎◌, ℕ, ◌<◌, ◌≤◌, ◌-◌, ◌^◌, None, get_or, length, Bool, if◌then◌else◌, IfOk, OnOk};
+ghost use Rattle.std.specs.Prelude.{◌≡◌, ◌⊎◌, ℕ, ◌<◌, ◌≤◌, ◌-◌, ◌^◌, None, get_or, length, Bool, if◌then◌else◌, IfOk};
+ghost use Rattle.std.specs.Prelude.{OnOk};
 ghost use Rattle.path_facts.specs.Facts.{offset_in};
 ghost use Rattle.path_facts.specs.Facts.Location.{Register};
 ghost use Rattle.point_steps.specs.Meanings.{source_meant};

@@ -11,23 +11,28 @@ use Rattle.path_facts.specs.declared.origin.Origin.TheVariants as origin
 use Rattle.path_facts.specs.Facts.{Fact, Facts, Location, Source, fact_from, offset_from, offset_in, offset_of}
 use Rattle.path_facts.specs.Facts.Location.{Register}
 use Rattle.fact_lattice.specs.declared.cells.Range.{Range}
-use Rattle.fact_lattice.specs.Cells.{AbstractState, Clash, Covers, Ends, Given, IsRealized, Lies, cell_of, is_start_sp, joined, joined_cell, known_in, may_span, one_offset, only_fact, same_origin, state_of}
-use Rattle.fact_lattice.proofs.NumberLemmas.{le_false, eq_true, eq_false, true_eq, same_true, same_false, stacks_same, min_either, max_either}
+use Rattle.fact_lattice.specs.Cells.{AbstractState, Clash, Covers, Ends, Given, IsRealized, Lies, cell_of, is_start_sp, joined, joined_cell}
+use Rattle.fact_lattice.specs.Cells.{known_in, may_span, one_offset, only_fact, same_origin, state_of}
+use Rattle.fact_lattice.proofs.NumberLemmas.{le_false, eq_true, eq_false, true_eq, same_true, same_false, stacks_same, min_either}
+use Rattle.fact_lattice.proofs.NumberLemmas.{max_either}
 use Rattle.fact_lattice.proofs.CoverLemmas.{source_lies}
 use Rattle.fact_lattice.proofs.RealizedLemmas.{ends_map, source_ends}
 
 -- ---- joins
 
 -- a number that is one of two with a fact of the set has one
-either : (W : Option Fact → Type 0) (o : Origin) (a b c : ℤ) → (c ≡ a) ⊎ (c ≡ b) → W (Some (record { origin = o; constant = a })) → W (Some (record { origin = o; constant = b })) → W (Some (record { origin = o; constant = c }))
+either : (W : Option Fact → Type 0) (o : Origin) (a b c : ℤ) → (c ≡ a) ⊎ (c ≡ b) → W (Some (record { origin = o; constant = a })) → W
+    (Some (record { origin = o; constant = b })) → W (Some (record { origin = o; constant = c }))
 either W o a b c (inl e) w v = subst (λ x. W (Some (record { origin = o; constant = x }))) (sym e) w
 either W o a b c (inr e) w v = subst (λ x. W (Some (record { origin = o; constant = x }))) (sym e) v
 
 -- two constants that no cell may hold clash
-spans_not : (stack : ℕ) (o : Origin) (a b : ℤ) → may_span stack o a b ≡ false → Clash stack (Some (record { origin = o; constant = a })) (Some (record { origin = o; constant = b }))
+spans_not : (stack : ℕ) (o : Origin) (a b : ℤ) → may_span stack o a b ≡ false → Clash stack (Some (record { origin = o; constant = a }))
+    (Some (record { origin = o; constant = b }))
 spans_not stack o a b e =
     let p = or_parts (int_eq a b) (is_start_sp o && int_le b (a +ℤ pos (stack + 64))) e in
-    elim (and_cases (is_start_sp o) (int_le b (a +ℤ pos (stack + 64))) p.1) as (λ _. Clash stack (Some (record { origin = o; constant = a })) (Some (record { origin = o; constant = b }))) [
+    elim (and_cases (is_start_sp o) (int_le b (a +ℤ pos (stack + 64))) p.1) as
+    (λ _. Clash stack (Some (record { origin = o; constant = a })) (Some (record { origin = o; constant = b }))) [
       | inl s ↦ inr (inl (s, eq_false a b p.0))
       | inr l ↦ inr (inr (le_false b (a +ℤ pos (stack + 64)) l))
     ]
@@ -38,22 +43,41 @@ range_ends : (stack : ℕ) (W : Option Fact → Type 0) (r q : Range) (a b : Boo
     → Ends stack W (if a && b then Some (record { origin = r.origin; low = int_min r.low q.low; high = int_max r.high q.high }) else None)
 range_ends stack W r q true b s l e f =
     let o = same_true r.origin q.origin (sym s) in
-    let low = either W r.origin r.low q.low (int_min r.low q.low) (min_either r.low q.low) e.0 (subst (λ x. W (Some (record { origin = x; constant = q.low }))) (sym o) f.0) in
-    let high = either W r.origin r.high q.high (int_max r.high q.high) (max_either r.high q.high) e.1 (subst (λ x. W (Some (record { origin = x; constant = q.high }))) (sym o) f.1) in
+    let low = either W r.origin r.low q.low (int_min r.low q.low) (min_either r.low q.low) e.0
+    (subst (λ x. W (Some (record { origin = x; constant = q.low }))) (sym o) f.0) in
+    let high = either W r.origin r.high q.high (int_max r.high q.high) (max_either r.high q.high) e.1
+    (subst (λ x. W (Some (record { origin = x; constant = q.high }))) (sym o) f.1) in
     spanned b l low high where
       spanned : (b : Bool) → b ≡ may_span stack r.origin (int_min r.low q.low) (int_max r.high q.high)
-          → W (Some (record { origin = r.origin; constant = int_min r.low q.low })) → W (Some (record { origin = r.origin; constant = int_max r.high q.high }))
+          → W (Some (record { origin = r.origin; constant = int_min r.low q.low })) → W
+          (Some (record { origin = r.origin; constant = int_max r.high q.high }))
           → Ends stack W (if b then Some (record { origin = r.origin; low = int_min r.low q.low; high = int_max r.high q.high }) else None)
       spanned true l low high = (low, high)
-      spanned false l low high = (Some (record { origin = r.origin; constant = int_min r.low q.low }), Some (record { origin = r.origin; constant = int_max r.high q.high }), low, high, spans_not stack r.origin (int_min r.low q.low) (int_max r.high q.high) (sym l))
-range_ends stack W r q false b s l e f =
-    (Some (record { origin = r.origin; constant = r.low }), Some (record { origin = q.origin; constant = q.low }), e.0, f.0, inl (same_false r.origin q.origin (sym s)))
+      spanned false l low high = (
+        Some (record { origin = r.origin; constant = int_min r.low q.low }),
+        Some
+            (record { origin = r.origin; constant = int_max r.high q.high }),
+        low,
+        high,
+        spans_not stack r.origin (int_min r.low q.low)
+            (int_max r.high q.high) (sym l),
+      )
+range_ends stack W r q false b s l e f = (
+  Some (record { origin = r.origin; constant = r.low }),
+  Some (record { origin = q.origin; constant = q.low }),
+  e.0,
+  f.0,
+  inl
+      (same_false r.origin q.origin (sym s)),
+)
 
-pub joined_ends : (stack : ℕ) (W : Option Fact → Type 0) (c d : Option Range) → Ends stack W c → Ends stack W d → Ends stack W (joined_cell stack c d)
+pub joined_ends : (stack : ℕ) (W : Option Fact → Type 0) (c d : Option Range) → Ends stack W c → Ends stack W d → Ends stack W
+    (joined_cell stack c d)
 joined_ends stack W None d e f = e
 joined_ends stack W (Some r) None e f = f
 joined_ends stack W (Some r) (Some q) e f =
-    range_ends stack W r q (same_origin r.origin q.origin) (may_span stack r.origin (int_min r.low q.low) (int_max r.high q.high)) refl refl e f
+    range_ends stack W r q (same_origin r.origin q.origin)
+    (may_span stack r.origin (int_min r.low q.low) (int_max r.high q.high)) refl refl e f
 
 given_more : (T U : Facts → Type 0) → ((f : Facts) → T f → U f) → (p : Location) (v : Option Fact) → Given T p v → Given U p v
 given_more T U h p v g = (g.0, h g.0 g.1, g.2)
@@ -88,7 +112,8 @@ only_lies (Some f) = (refl, omega (arith, ints), omega (arith, ints))
 pub start_covers : (f : Facts) → Covers (state_of f) f
 start_covers f = record { facts = λ p. only_lies (f.fact p); marks = λ k e. e }
 
-pub start_real : (stack : ℕ) (T : Facts → Type 0) (f : Facts) → T f → ((g : Facts) → T g → Covers (state_of f) g) → IsRealized stack T (state_of f)
+pub start_real : (stack : ℕ) (T : Facts → Type 0) (f : Facts) → T f → ((g : Facts) → T g → Covers (state_of f) g) → IsRealized stack T
+    (state_of f)
 start_real stack T f t covers =
     record {
       covers = covers;
@@ -103,13 +128,17 @@ clash_not stack k None w h e f = none-some k e
 clash_not stack k (Some x) None h e f = none-some k f
 clash_not stack k (Some x) (Some y) (inl o) e f = o (ap (λ z. z.origin) (same_Some x k e ∙ sym (same_Some y k f)))
 clash_not stack k (Some x) (Some y) (inr (inl s)) e f = s.1 (ap (λ z. z.constant) (same_Some x k e ∙ sym (same_Some y k f)))
-clash_not stack k (Some x) (Some y) (inr (inr l)) e f = let s : x.constant ≡ y.constant = ap (λ z. z.constant) (same_Some x k e ∙ sym (same_Some y k f)) in omega (arith, ints, l, s)
+clash_not stack k (Some x) (Some y) (inr (inr l)) e f = let s : x.constant ≡ y.constant = ap (λ z. z.constant)
+    (same_Some x k e ∙ sym (same_Some y k f)) in omega (arith, ints, l, s)
 
-pub exact_to : (stack : ℕ) (W : Option Fact → Type 0) (k : Fact) (c : Option Range) → Ends stack W c → ((v : Option Fact) → W v → v ≡ Some k) → known_in c ≡ Some k
+pub exact_to : (stack : ℕ) (W : Option Fact → Type 0) (k : Fact) (c : Option Range) → Ends stack W c →
+    ((v : Option Fact) → W v → v ≡ Some k) → known_in c ≡ Some k
 exact_to stack W k None e h = absurd (clash_not stack k e.0 e.1 e.4 (h e.0 e.2) (h e.1 e.3))
 exact_to stack W k (Some r) e h =
-    let low = same_Some (record { origin = r.origin; constant = r.low }) k (h (Some (record { origin = r.origin; constant = r.low })) e.0) in
-    let high = same_Some (record { origin = r.origin; constant = r.high }) k (h (Some (record { origin = r.origin; constant = r.high })) e.1) in
+    let low = same_Some (record { origin = r.origin; constant = r.low }) k
+    (h (Some (record { origin = r.origin; constant = r.low })) e.0) in
+    let high = same_Some (record { origin = r.origin; constant = r.high }) k
+    (h (Some (record { origin = r.origin; constant = r.high })) e.1) in
     let one : r.low ≡ r.high = ap (λ z. z.constant) (low ∙ sym high) in
     cond-true (int_eq r.low r.high) (Some (record { origin = r.origin; constant = r.low })) None (true_eq r.low r.high one) ∙ ap Some low
 
@@ -119,7 +148,8 @@ between_one a b c e h k = omega (arith, ints, e, h, k)
 same_fact : (f g : Fact) → f.origin ≡ g.origin → f.constant ≡ g.constant → f ≡ g
 same_fact f g e d = λ j. record { origin = e j; constant = d j }
 
-known_is : (r : Range) (k f : Fact) (b : Bool) → b ≡ int_eq r.low r.high → (if b then Some (record { origin = r.origin; constant = r.low }) else None) ≡ Some k → Lies (Some r) (Some f) → f ≡ k
+known_is : (r : Range) (k f : Fact) (b : Bool) → b ≡ int_eq r.low r.high →
+    (if b then Some (record { origin = r.origin; constant = r.low }) else None) ≡ Some k → Lies (Some r) (Some f) → f ≡ k
 known_is r k f true b e l =
     let c = between_one r.low r.high f.constant (eq_true r.low r.high (sym b)) l.1 l.2 in
     same_fact f (record { origin = r.origin; constant = r.low }) l.0 c ∙ same_Some (record { origin = r.origin; constant = r.low }) k e
@@ -131,20 +161,24 @@ exact_from k (Some r) None e l = absurd l
 exact_from k (Some r) (Some f) e l = ap Some (known_is r k f (int_eq r.low r.high) refl e l)
 
 -- what is known is what all paths give
-pub known_exact : (stack : ℕ) (T : Facts → Type 0) (m : AbstractState) (p : Location) (k : Fact) → IsRealized stack T m → (known_in (m.cell p) ≡ Some k) ↔ ((f : Facts) → T f → f.fact p ≡ Some k)
+pub known_exact : (stack : ℕ) (T : Facts → Type 0) (m : AbstractState) (p : Location) (k : Fact) → IsRealized stack T m →
+    (known_in (m.cell p) ≡ Some k) ↔ ((f : Facts) → T f → f.fact p ≡ Some k)
 known_exact stack T m p k real = (
   λ e f t. exact_from k (m.cell p) (f.fact p) e ((real.covers f t).facts p),
   λ h. exact_to stack (Given T p) k (m.cell p) (real.cells p) (λ v g. sym g.2 ∙ h g.0 g.1),
 )
 
 -- the same of what a source gives
-pub source_exact : (stack : ℕ) (T : Facts → Type 0) (m : AbstractState) (s : Source) (k : Fact) → IsRealized stack T m → (known_in (cell_of m s) ≡ Some k) ↔ ((f : Facts) → T f → fact_from f s ≡ Some k)
+pub source_exact : (stack : ℕ) (T : Facts → Type 0) (m : AbstractState) (s : Source) (k : Fact) → IsRealized stack T m →
+    (known_in (cell_of m s) ≡ Some k) ↔ ((f : Facts) → T f → fact_from f s ≡ Some k)
 source_exact stack T m s k real = (
   λ e f t. exact_from k (cell_of m s) (fact_from f s) e (source_lies m f (real.covers f t) s),
-  λ h. exact_to stack (λ v. (f : Facts) × T f × (fact_from f s ≡ v)) k (cell_of m s) (source_ends stack T m real s (λ v. (f : Facts) × T f × (fact_from f s ≡ v)) (λ f t. (f, t, refl))) (λ v g. sym g.2 ∙ h g.0 g.1),
+  λ h. exact_to stack (λ v. (f : Facts) × T f × (fact_from f s ≡ v)) k (cell_of m s)
+      (source_ends stack T m real s (λ v. (f : Facts) × T f × (fact_from f s ≡ v)) (λ f t. (f, t, refl))) (λ v g. sym g.2 ∙ h g.0 g.1),
 )
 
-pub kept_exact : (stack : ℕ) (T : Facts → Type 0) (m : AbstractState) (k : ℕ) → IsRealized stack T m → (m.marked k ≡ true) ↔ ((f : Facts) → T f → f.marked k ≡ true)
+pub kept_exact : (stack : ℕ) (T : Facts → Type 0) (m : AbstractState) (k : ℕ) → IsRealized stack T m → (m.marked k ≡ true) ↔
+    ((f : Facts) → T f → f.marked k ≡ true)
 kept_exact stack T m k real = (
   λ e f t. (real.covers f t).marks k e,
   λ h. elim (cases_Bool (m.marked k)) as (λ _. m.marked k ≡ true) [
@@ -202,7 +236,8 @@ clash_differs stack (Some f) (Some g) (inl o) =
       | inr a ↦ inl (from_nothing f.origin f.constant a)
     ]
 clash_differs stack (Some f) (Some g) (inr (inl s)) = inl (from_nothing f.origin f.constant s.0)
-clash_differs stack (Some f) (Some g) (inr (inr l)) = from_apart f.origin g.origin f.constant g.constant (far_apart stack f.constant g.constant l)
+clash_differs stack (Some f) (Some g) (inr (inr l)) = from_apart f.origin g.origin f.constant g.constant
+    (far_apart stack f.constant g.constant l)
 
 -- a cell that isn't one constant over the start's r13 has two facts that differ
 lost_range : (stack : ℕ) (W : Option Fact → Type 0) (r : Range) (b : Bool) → b ≡ int_eq r.low r.high
@@ -237,7 +272,8 @@ lost_is_true stack T m real e =
 -- ---- a return that isn't proved
 
 origin_cases : (o q : Origin) → (o ≡ q) ⊎ (o ≢ q)
-origin_cases o q = elim (cases_Bool (same_origin o q)) as (λ _. (o ≡ q) ⊎ (o ≢ q)) [ inl a ↦ inl (same_true o q a) | inr b ↦ inr (same_false o q b) ]
+origin_cases o q = elim (cases_Bool (same_origin o q)) as
+    (λ _. (o ≡ q) ⊎ (o ≢ q)) [ inl a ↦ inl (same_true o q a) | inr b ↦ inr (same_false o q b) ]
 
 number_cases : (a b : ℤ) → (a ≡ b) ⊎ (a ≢ b)
 number_cases a b = elim (cases_Bool (int_eq a b)) as (λ _. (a ≡ b) ⊎ (a ≢ b)) [ inl t ↦ inl (eq_true a b t) | inr f ↦ inr (eq_false a b f) ]
@@ -254,14 +290,17 @@ fact_cases (Some f) k =
       | inr n ↦ inr (λ e. n (ap (λ z. z.origin) (same_Some f k e)))
     ]
 
-range_known : (r : Range) (k : Fact) → Some (record { origin = r.origin; constant = r.low }) ≡ Some k → Some (record { origin = r.origin; constant = r.high }) ≡ Some k → known_in (Some r) ≡ Some k
+range_known : (r : Range) (k : Fact) → Some (record { origin = r.origin; constant = r.low }) ≡ Some k → Some
+    (record { origin = r.origin; constant = r.high }) ≡ Some k → known_in (Some r) ≡ Some k
 range_known r k low high =
     let l = same_Some (record { origin = r.origin; constant = r.low }) k low in
     let h = same_Some (record { origin = r.origin; constant = r.high }) k high in
-    cond-true (int_eq r.low r.high) (Some (record { origin = r.origin; constant = r.low })) None (true_eq r.low r.high (ap (λ z. z.constant) (l ∙ sym h))) ∙ low
+    cond-true (int_eq r.low r.high) (Some (record { origin = r.origin; constant = r.low })) None
+    (true_eq r.low r.high (ap (λ z. z.constant) (l ∙ sym h))) ∙ low
 
 -- a cell that isn't one fact has a path that doesn't give it
-pub other_fact : (stack : ℕ) (W : Option Fact → Type 0) (k : Fact) (c : Option Range) → Ends stack W c → known_in c ≢ Some k → (v : Option Fact) × W v × (v ≢ Some k)
+pub other_fact : (stack : ℕ) (W : Option Fact → Type 0) (k : Fact) (c : Option Range) → Ends stack W c → known_in c ≢ Some k →
+    (v : Option Fact) × W v × (v ≢ Some k)
 other_fact stack W k None e h =
     elim (fact_cases e.0 k) as (λ _. (v : Option Fact) × W v × (v ≢ Some k)) [
       | inl s ↦ (e.1, e.3, λ t. clash_not stack k e.0 e.1 e.4 s t)
@@ -273,7 +312,8 @@ other_fact stack W k (Some r) e h =
       | inr n ↦ (Some (record { origin = r.origin; constant = r.low }), e.0, n)
     ]
 
-pub unproved_is_true : (stack : ℕ) (T : Facts → Type 0) (m : AbstractState) (s : Source) (k : Fact) → IsRealized stack T m → known_in (cell_of m s) ≢ Some k → (f : Facts) × T f × (fact_from f s ≢ Some k)
+pub unproved_is_true : (stack : ℕ) (T : Facts → Type 0) (m : AbstractState) (s : Source) (k : Fact) → IsRealized stack T m → known_in
+    (cell_of m s) ≢ Some k → (f : Facts) × T f × (fact_from f s ≢ Some k)
 unproved_is_true stack T m s k real h =
     let W = λ (v : Option Fact). (f : Facts) × T f × (fact_from f s ≡ v) in
     let x = other_fact stack W k (cell_of m s) (source_ends stack T m real s W (λ f t. (f, t, refl))) h in

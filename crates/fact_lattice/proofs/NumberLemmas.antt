@@ -69,5 +69,6 @@ pub max_right : (a b c : ℤ) → c ≤ℤ b → c ≤ℤ int_max a b
 max_right a b c h = grind (arith, ints)
 
 -- what lies between two numbers that fit does
-pub fits_between : (a b c by : ℤ) → a ≤ℤ c → c ≤ℤ b → is_signed_word (a +ℤ by) ≡ true → is_signed_word (b +ℤ by) ≡ true → is_signed_word (c +ℤ by) ≡ true
+pub fits_between : (a b c by : ℤ) → a ≤ℤ c → c ≤ℤ b → is_signed_word (a +ℤ by) ≡ true → is_signed_word (b +ℤ by) ≡ true → is_signed_word
+    (c +ℤ by) ≡ true
 fits_between a b c by h k e f = grind (arith, ints)

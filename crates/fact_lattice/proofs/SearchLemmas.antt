@@ -1,5 +1,6 @@
 -- What the search keeps from one merge to the next, and from one point to the next.
-use Rattle.std.proofs.Common.{◌≡◌, refl, sym, ap, ◌∙◌, subst, ℕ, zero, suc, ◌+◌, ◌<◌, ◌⊎◌, inl, inr, Bool, true, false, List, [], ◌∷◌, length, get_or, arith}
+use Rattle.std.proofs.Common.{◌≡◌, refl, sym, ap, ◌∙◌, subst, ℕ, zero, suc, ◌+◌, ◌<◌, ◌⊎◌, inl, inr, Bool, true, false, List, [], ◌∷◌}
+use Rattle.std.proofs.Common.{length, get_or, arith}
 use Rattle.std.specs.Prelude.{◌≢◌, ◌==◌, if◌then◌else◌, Option, Some, None, IfSome, IsSomeAnd, is_some, slice_get}
 use Rattle.std.specs.List.{Contains}
 use Rattle.std.proofs.lemmas.Bool.{cases_eq, cond-true, cond-false, eq-eqb, ne_eqb, false≢true, true≢false}
@@ -8,11 +9,13 @@ use Rattle.std.proofs.Math.Numerals.{add-one}
 use Rattle.control_flow.specs.Routes.{Place, Way}
 use Rattle.control_flow.specs.Routes.Place.{At, Exit}
 use Rattle.fact_lattice.specs.Cells.{AbstractState, IsRealized, Within, state_of}
-use Rattle.fact_lattice.specs.Flows.{AreRealized, Flow, HasCoveredFacts, IsClosedAt, IsLostAt, IsRegular, IsSolved, is_placed, step_at, way_to}
+use Rattle.fact_lattice.specs.Flows.{AreRealized, Flow, HasCoveredFacts, IsClosedAt, IsLostAt, IsRegular, IsSolved, is_placed, step_at}
+use Rattle.fact_lattice.specs.Flows.{way_to}
 use Rattle.fact_lattice.specs.Searches.{Grows, IfAt, IsGone, IsSolving, IsTaken, Merged, MergedBy, Passed, adds, first_map, merged}
 use Rattle.fact_lattice.proofs.CoverLemmas.{within_itself}
 use Rattle.fact_lattice.proofs.JoinLemmas.{start_real, start_covers}
-use Rattle.fact_lattice.proofs.SolvedLemmas.{if_some, some_of, lost_here, next_real, merged_real, merged_there, merged_away, merged_grows, within_joined_new, itself_grows, grown, grows_trans}
+use Rattle.fact_lattice.proofs.SolvedLemmas.{if_some, some_of, lost_here, next_real, merged_real, merged_there, merged_away, merged_grows}
+use Rattle.fact_lattice.proofs.SolvedLemmas.{within_joined_new, itself_grows, grown, grows_trans}
 
 if_at_then : {P Q : ℕ → Type 0} (o : Place ℕ) → IfAt o P → ((q : ℕ) → P q → Q q) → IfAt o Q
 if_at_then (At q) h f = f q h
@@ -46,7 +49,8 @@ some_after a b g x e = some_after_at (a x) (b x) (g x) e
 
 -- ---- one merge
 
-pub nothing_passed : (flow : Flow) (p : ℕ) (map : ℕ → Option AbstractState) (was : ℕ → Bool) → IsRegular flow → AreRealized flow map → Passed flow p 0 map map was was
+pub nothing_passed : (flow : Flow) (p : ℕ) (map : ℕ → Option AbstractState) (was : ℕ → Bool) → IsRegular flow → AreRealized flow map
+    → Passed flow p 0 map map was was
 nothing_passed flow p map was regular real =
     record {
       regular = regular;
@@ -58,9 +62,12 @@ nothing_passed flow p map was regular real =
     }
 
 -- what went is_above where the map grows
-gone_grows : (flow : Flow) (p j : ℕ) (map now new : ℕ → Option AbstractState) → Grows now new → IsGone flow p j map now → IsGone flow p j map new
+gone_grows : (flow : Flow) (p j : ℕ) (map now new : ℕ → Option AbstractState) → Grows now new → IsGone flow p j map now
+    → IsGone flow p j map new
 gone_grows flow p j map now new g h =
-    IfSome_then (map p) h (λ m a. IfSome_then (slice_get (flow.ways p) j) a (λ w b. if_at_then w.to b (λ q c. grown (step_at flow p w.done m) (now q) (new q) c (g q))))
+    IfSome_then (map p) h
+    (λ m a. IfSome_then (slice_get (flow.ways p) j) a
+    (λ w b. if_at_then w.to b (λ q c. grown (step_at flow p w.done m) (now q) (new q) c (g q))))
 
 adds_false : (q x : ℕ) (waits : ℕ → Bool) → adds (Some q) waits x ≡ false → (x ≢ q) × (waits x ≡ false)
 adds_false q x waits e =
@@ -77,7 +84,8 @@ adds_true q x waits e =
     ]
 
 module _ (flow : Flow) (p i : ℕ) (map now : ℕ → Option AbstractState) (was waits : ℕ → Bool) where
-  unchanged_passes : (new : ℕ → Option AbstractState) (then' : ℕ → Bool) → Passed flow p i map now was waits → Merged flow p i now new None → (new ≡ now) → ((x : ℕ) → then' x ≡ waits x) → Passed flow p (suc i) map new was then'
+  unchanged_passes : (new : ℕ → Option AbstractState) (then' : ℕ → Bool) → Passed flow p i map now was waits → Merged flow p i now new None
+      → (new ≡ now) → ((x : ℕ) → then' x ≡ waits x) → Passed flow p (suc i) map new was then'
   unchanged_passes new then' s h same v =
       subst (λ (f : ℕ → Option AbstractState). Passed flow p (suc i) map f was then') (sym same) (record {
         regular = s.regular;
@@ -90,21 +98,27 @@ module _ (flow : Flow) (p i : ℕ) (map now : ℕ → Option AbstractState) (was
             elim (below_next j i l) as (λ _. IsGone flow p j map now) [
               | inl is ↦
                   subst (λ k. IsGone flow p k map now) (sym is)
-                  (subst (λ o. IfSome o (λ m. IfSome (slice_get (flow.ways p) i) (λ w. IfAt w.to (λ q. IsSomeAnd (now q) (Within (step_at flow p w.done m)))))) (s.waiting p e').1
+                  (subst (λ o. IfSome o
+                  (λ m. IfSome (slice_get (flow.ways p) i)
+                  (λ w. IfAt w.to (λ q. IsSomeAnd (now q) (Within (step_at flow p w.done m)))))) (s.waiting p e').1
                   (IfSome_then (now p) h (λ m a. IfSome_then (slice_get (flow.ways p) i) a (λ w b. b.1))))
               | inr le ↦ s.gone j le e'
             ];
       })
 
-  changed_passes : (new : ℕ → Option AbstractState) (then' : ℕ → Bool) (q : ℕ) (m : AbstractState) (w : Way ℕ) → Passed flow p i map now was waits
+  changed_passes : (new : ℕ → Option AbstractState) (then' : ℕ → Bool) (q : ℕ) (m : AbstractState) (w : Way ℕ)
+      → Passed flow p i map now was waits
       → now p ≡ Some m → is_placed flow p m ≡ true → i < length (flow.ways p) → slice_get (flow.ways p) i ≡ Some w
-      → w.to ≡ At q → new ≡ merged flow.stack q (step_at flow p w.done m) now → ((x : ℕ) → then' x ≡ adds (Some q) waits x) → Passed flow p (suc i) map new was then'
+      → w.to ≡ At q → new ≡ merged flow.stack q (step_at flow p w.done m) now → ((x : ℕ) → then' x ≡ adds (Some q) waits x) → Passed flow p
+      (suc i) map new was then'
   changed_passes new then' q m w s at placed lt got to is v =
       let t = step_at flow p w.done m in
       let next = merged flow.stack q t now in
       let along : w ≡ way_to w.done q = λ j. record { done = w.done; to = to j } in
       let grows : Grows now next = merged_grows flow.stack q t now in
-      let r = next_real flow s.regular p w.done q m (if_some (now p) (λ n. IsRealized flow.stack (HasCoveredFacts flow p n) n) m at (s.real p)) placed (contains_got (flow.ways p) i (way_to w.done q) lt (got ∙ ap Some along)) in
+      let r = next_real flow s.regular p w.done q m
+      (if_some (now p) (λ n. IsRealized flow.stack (HasCoveredFacts flow p n) n) m at (s.real p)) placed
+      (contains_got (flow.ways p) i (way_to w.done q) lt (got ∙ ap Some along)) in
       subst (λ (f : ℕ → Option AbstractState). Passed flow p (suc i) map f was then') (sym is) (record {
         regular = s.regular;
         real = merged_real flow q t now s.real r;
@@ -127,21 +141,27 @@ module _ (flow : Flow) (p i : ℕ) (map now : ℕ → Option AbstractState) (was
             elim (below_next j i l) as (λ _. IsGone flow p j map next) [
               | inl same ↦
                   subst (λ k. IsGone flow p k map next) (sym same)
-                  (subst (λ o. IfSome o (λ m. IfSome (slice_get (flow.ways p) i) (λ w. IfAt w.to (λ q. IsSomeAnd (next q) (Within (step_at flow p w.done m)))))) (sym at ∙ (s.waiting p a.1).1)
+                  (subst (λ o. IfSome o
+                  (λ m. IfSome (slice_get (flow.ways p) i)
+                  (λ w. IfAt w.to (λ q. IsSomeAnd (next q) (Within (step_at flow p w.done m)))))) (sym at ∙ (s.waiting p a.1).1)
                   (subst (λ o. IfSome o (λ w. IfAt w.to (λ q. IsSomeAnd (next q) (Within (step_at flow p w.done m))))) (sym got)
                   (subst (λ o. IfAt o (λ y. IsSomeAnd (next y) (Within t))) (sym to)
-                  (subst (λ o. IsSomeAnd o (Within t)) (sym (merged_there flow.stack q t now q refl)) (within_joined_new flow.stack (now q) t)))))
+                  (subst (λ o. IsSomeAnd o (Within t)) (sym (merged_there flow.stack q t now q refl))
+                  (within_joined_new flow.stack (now q) t)))))
               | inr le ↦ gone_grows flow p j map now next grows (s.gone j le a.1)
             ];
       })
 
-  each_passes : (new : ℕ → Option AbstractState) (then' : ℕ → Bool) (changed : Option ℕ) (m : AbstractState) (w : Way ℕ) → Passed flow p i map now was waits
+  each_passes : (new : ℕ → Option AbstractState) (then' : ℕ → Bool) (changed : Option ℕ) (m : AbstractState) (w : Way ℕ)
+      → Passed flow p i map now was waits
       → now p ≡ Some m → is_placed flow p m ≡ true → i < length (flow.ways p) → slice_get (flow.ways p) i ≡ Some w
-      → MergedBy flow p w m now new changed → Merged flow p i now new changed → ((x : ℕ) → then' x ≡ adds changed waits x) → Passed flow p (suc i) map new was then'
+      → MergedBy flow p w m now new changed → Merged flow p i now new changed → ((x : ℕ) → then' x ≡ adds changed waits x) → Passed flow p
+      (suc i) map new was then'
   each_passes new then' None m w s at placed lt got by went v = unchanged_passes new then' s went by.0 v
   each_passes new then' (Some q) m w s at placed lt got by went v = changed_passes new then' q m w s at placed lt got by.0 by.1 v
 
-  pub merge_passes : (all : Flow) → all ≡ flow → (new : ℕ → Option AbstractState) (then' : ℕ → Bool) (changed : Option ℕ) (b : Bool) → Passed flow p i map now was waits → is_some (map p) ≡ true
+  pub merge_passes : (all : Flow) → all ≡ flow → (new : ℕ → Option AbstractState) (then' : ℕ → Bool) (changed : Option ℕ) (b : Bool)
+      → Passed flow p i map now was waits → is_some (map p) ≡ true
       → IfSome (now p) (λ m. b ≡ is_placed all p m) → b ≡ true → i < length (flow.ways p)
       → Merged all p i now new changed → ((x : ℕ) → then' x ≡ adds changed waits x) → Passed flow p (i + 1) map new was then'
   merge_passes all same new then' changed b s some placed ready lt went v =
@@ -151,11 +171,13 @@ module _ (flow : Flow) (p i : ℕ) (map now : ℕ → Option AbstractState) (was
       let by = if_some (slice_get (flow.ways p) i) (λ w. MergedBy flow p w m.0 now new changed) w.0 w.1
       (if_some (now p) (λ m. IfSome (slice_get (flow.ways p) i) (λ w. MergedBy flow p w m now new changed)) m.0 m.1 went') in
       let ok = subst (λ (f : Flow). b ≡ is_placed f p m.0) same (if_some (now p) (λ m. b ≡ is_placed all p m) m.0 m.1 placed) in
-      subst (λ n. Passed flow p n map new was then') (sym (add-one i)) (each_passes new then' changed m.0 w.0 s m.1 (sym ok ∙ ready) lt w.1 by went' v)
+      subst (λ n. Passed flow p n map new was then') (sym (add-one i))
+      (each_passes new then' changed m.0 w.0 s m.1 (sym ok ∙ ready) lt w.1 by went' v)
 
 -- ---- one point
 
-pub solving_start : (flow : Flow) → IsRegular flow → (waits : ℕ → Bool) → ((x : ℕ) → waits x ≡ (if x == flow.start then true else false)) → IsSolving flow (first_map flow) waits
+pub solving_start : (flow : Flow) → IsRegular flow → (waits : ℕ → Bool) → ((x : ℕ) → waits x ≡ (if x == flow.start then true else false))
+    → IsSolving flow (first_map flow) waits
 solving_start flow regular waits v =
     record {
       regular = regular;
@@ -164,7 +186,8 @@ solving_start flow regular waits v =
           elim (cases_eq x flow.start) as (λ _. IfSome (first_map flow x) (λ m. IsRealized flow.stack (HasCoveredFacts flow x m) m)) [
             | inl e ↦
                 subst (λ o. IfSome o (λ m. IsRealized flow.stack (HasCoveredFacts flow x m) m)) (sym (there x e))
-                (start_real flow.stack (HasCoveredFacts flow x (state_of flow.first)) flow.first (([], e, refl), start_covers flow.first) (λ g a. a.1))
+                (start_real flow.stack (HasCoveredFacts flow x (state_of flow.first)) flow.first (([], e, refl), start_covers flow.first)
+                (λ g a. a.1))
             | inr n ↦ subst (λ o. IfSome o (λ m. IsRealized flow.stack (HasCoveredFacts flow x m) m)) (sym (away x n)) tt
           ];
       closed = λ x e.
@@ -184,7 +207,8 @@ solving_start flow regular waits v =
       away : (x : ℕ) → x ≢ flow.start → first_map flow x ≡ None
       away x n = cond-false (x == flow.start) (Some (state_of flow.first)) None (ne_eqb x flow.start n)
 
-closed_grows : (flow : Flow) (map new : ℕ → Option AbstractState) (x : ℕ) (m : AbstractState) → Grows map new → IsClosedAt flow map x m → IsClosedAt flow new x m
+closed_grows : (flow : Flow) (map new : ℕ → Option AbstractState) (x : ℕ) (m : AbstractState) → Grows map new → IsClosedAt flow map x m
+    → IsClosedAt flow new x m
 closed_grows flow map new x m g c =
     record { placed = c.placed; ways = λ d q h. grown (step_at flow x d m) (map q) (new q) (c.ways d q h) (g q) }
 
@@ -196,11 +220,15 @@ point_closed flow p map new m e placed gone =
       placed = placed;
       ways = λ d q h.
           let got = got_contained (flow.ways p) h.0 (way_to d q) (way_to d q) h.1 h.2 in
-          let a = if_some (map p) (λ m. IfSome (slice_get (flow.ways p) h.0) (λ w. IfAt w.to (λ q. IsSomeAnd (new q) (Within (step_at flow p w.done m))))) m e (gone h.0 h.1) in
-          if_some (slice_get (flow.ways p) h.0) (λ w. IfAt w.to (λ q. IsSomeAnd (new q) (Within (step_at flow p w.done m)))) (way_to d q) got a;
+          let a = if_some (map p)
+          (λ m. IfSome (slice_get (flow.ways p) h.0) (λ w. IfAt w.to (λ q. IsSomeAnd (new q) (Within (step_at flow p w.done m))))) m e
+          (gone h.0 h.1) in
+          if_some (slice_get (flow.ways p) h.0) (λ w. IfAt w.to (λ q. IsSomeAnd (new q) (Within (step_at flow p w.done m))))
+          (way_to d q) got a;
     }
 
-pub solving_next : (flow : Flow) (p : ℕ) (map new : ℕ → Option AbstractState) (was mid waits : ℕ → Bool) → IsSolving flow map was → IsTaken was mid p
+pub solving_next : (flow : Flow) (p : ℕ) (map new : ℕ → Option AbstractState) (was mid waits : ℕ → Bool) → IsSolving flow map was
+    → IsTaken was mid p
     → Passed flow p (length (flow.ways p)) map new mid waits
     → (waits p ≡ false → IfSome (map p) (λ m. is_placed flow p m ≡ true))
     → IsSolving flow new waits
@@ -217,50 +245,62 @@ solving_next flow p map new was mid waits s t g placed =
                 let m = some_of (map p) (s.visited p t.member) in
                 subst (λ y. IfSome (new y) (IsClosedAt flow new y)) (sym is)
                 (subst (λ o. IfSome o (IsClosedAt flow new p)) (sym ((g.waiting p e').1 ∙ m.1))
-                (point_closed flow p map new m.0 m.1 (if_some (map p) (λ m. is_placed flow p m ≡ true) m.0 m.1 (placed e')) (λ j l. g.gone j l e')))
+                (point_closed flow p map new m.0 m.1 (if_some (map p) (λ m. is_placed flow p m ≡ true) m.0 m.1 (placed e'))
+                (λ j l. g.gone j l e')))
             | inr n ↦
                 let old : was x ≡ false = sym (cond-false (x == p) false (was x) (ne_eqb x p n)) ∙ (sym (t.rest x) ∙ a.0) in
-                subst (λ o. IfSome o (IsClosedAt flow new x)) (sym a.1) (IfSome_then (map x) (s.closed x old) (λ m c. closed_grows flow map new x m g.grows c))
+                subst (λ o. IfSome o (IsClosedAt flow new x)) (sym a.1)
+                (IfSome_then (map x) (s.closed x old) (λ m c. closed_grows flow map new x m g.grows c))
           ];
       visited = λ x e.
           elim (g.visited x e) as (λ _. is_some (new x) ≡ true) [
             | inl a ↦
                 elim (cases_eq x p) as (λ _. is_some (new x) ≡ true) [
                   | inl is ↦ some_after map new g.grows x (s.visited x (subst (λ y. was y ≡ true) (sym is) t.member))
-                  | inr n ↦ some_after map new g.grows x (s.visited x (sym (cond-false (x == p) false (was x) (ne_eqb x p n)) ∙ (sym (t.rest x) ∙ a)))
+                  | inr n ↦ some_after map new g.grows x
+                      (s.visited x (sym (cond-false (x == p) false (was x) (ne_eqb x p n)) ∙ (sym (t.rest x) ∙ a)))
                 ]
             | inr b ↦ b
           ];
     }
 
-pub solving_end : (flow : Flow) (map : ℕ → Option AbstractState) (waits : ℕ → Bool) → IsSolving flow map waits → ((x : ℕ) → waits x ≡ false) → IsSolved flow map
+pub solving_end : (flow : Flow) (map : ℕ → Option AbstractState) (waits : ℕ → Bool) → IsSolving flow map waits → ((x : ℕ) → waits x ≡ false)
+    → IsSolved flow map
 solving_end flow map waits s none = record { regular = s.regular; starts = s.starts; real = s.real; closed = λ x. s.closed x (none x) }
 
 -- where a point can't be passed it is lost
-pub lost_after : (flow all : Flow) → all ≡ flow → (p many : ℕ) (map now : ℕ → Option AbstractState) (was waits : ℕ → Bool) → Passed flow p many map now was waits → is_some (map p) ≡ true
+pub lost_after : (flow all : Flow) → all ≡ flow → (p many : ℕ) (map now : ℕ → Option AbstractState) (was waits : ℕ → Bool)
+    → Passed flow p many map now was waits → is_some (map p) ≡ true
     → (b : Bool) → IfSome (now p) (λ m. b ≡ is_placed all p m) → b ≡ false → IsLostAt flow p
 lost_after flow all same p many map now was waits s some b placed unready =
     let m = some_of (now p) (some_after map now s.grows p some) in
-    lost_here flow now s.real p m.0 m.1 (sym (subst (λ (f : Flow). b ≡ is_placed f p m.0) same (if_some (now p) (λ m. b ≡ is_placed all p m) m.0 m.1 placed)) ∙ unready)
+    lost_here flow now s.real p m.0 m.1
+    (sym (subst (λ (f : Flow). b ≡ is_placed f p m.0) same (if_some (now p) (λ m. b ≡ is_placed all p m) m.0 m.1 placed)) ∙ unready)
 
-pub placed_after : (flow all : Flow) → all ≡ flow → (p many : ℕ) (map now : ℕ → Option AbstractState) (was waits : ℕ → Bool) → Passed flow p many map now was waits
-    → (b : Bool) → IfSome (now p) (λ m. b ≡ is_placed all p m) → b ≡ true → waits p ≡ false → IfSome (map p) (λ m. is_placed flow p m ≡ true)
+pub placed_after : (flow all : Flow) → all ≡ flow → (p many : ℕ) (map now : ℕ → Option AbstractState) (was waits : ℕ → Bool)
+    → Passed flow p many map now was waits
+    → (b : Bool) → IfSome (now p) (λ m. b ≡ is_placed all p m) → b ≡ true → waits p ≡ false → IfSome (map p)
+    (λ m. is_placed flow p m ≡ true)
 placed_after flow all same p many map now was waits s b placed ready e =
     subst (λ o. IfSome o (λ m. is_placed flow p m ≡ true)) (s.waiting p e).1
     (IfSome_then (now p) placed (λ m h. sym (subst (λ (f : Flow). b ≡ is_placed f p m) same h) ∙ ready))
 
 -- ---- the loop's answers
 
-pub solving_begins : (flow : Flow) → IsRegular flow → (start : ℕ) (map : ℕ → Option AbstractState) (none waits : ℕ → Bool) → flow.start ≡ start → map ≡ first_map flow → ((x : ℕ) → none x ≡ false)
+pub solving_begins : (flow : Flow) → IsRegular flow → (start : ℕ) (map : ℕ → Option AbstractState) (none waits : ℕ → Bool) → flow.start
+    ≡ start → map ≡ first_map flow → ((x : ℕ) → none x ≡ false)
     → ((x : ℕ) → waits x ≡ adds (Some start) none x) → IsSolving flow map waits
 solving_begins flow regular start map none waits is first empty v =
     subst (λ (f : ℕ → Option AbstractState). IsSolving flow f waits) (sym first)
-    (solving_start flow regular waits (λ x. v x ∙ (ap (λ b. if x == start then true else b) (empty x) ∙ ap (λ y. if x == y then true else false) (sym is))))
+    (solving_start flow regular waits
+    (λ x. v x ∙ (ap (λ b. if x == start then true else b) (empty x) ∙ ap (λ y. if x == y then true else false) (sym is))))
 
-pub real_again : (flow all : Flow) → all ≡ flow → (map : ℕ → Option AbstractState) (waits : ℕ → Bool) → IsSolving flow map waits → AreRealized all map
+pub real_again : (flow all : Flow) → all ≡ flow → (map : ℕ → Option AbstractState) (waits : ℕ → Bool) → IsSolving flow map waits
+    → AreRealized all map
 real_again flow all same map waits s = subst (λ (f : Flow). AreRealized f map) (sym same) s.real
 
-pub solving_passes : (flow all : Flow) → all ≡ flow → (p : ℕ) (map new : ℕ → Option AbstractState) (was mid waits : ℕ → Bool) → IsSolving flow map was → IsTaken was mid p
+pub solving_passes : (flow all : Flow) → all ≡ flow → (p : ℕ) (map new : ℕ → Option AbstractState) (was mid waits : ℕ → Bool)
+    → IsSolving flow map was → IsTaken was mid p
     → Passed all p (length (all.ways p)) map new mid waits
     → (waits p ≡ false → IfSome (map p) (λ m. is_placed all p m ≡ true))
     → IsSolving flow new waits
@@ -269,5 +309,6 @@ solving_passes flow all same p map new was mid waits s t g placed =
     (subst (λ (f : Flow). Passed f p (length (f.ways p)) map new mid waits) same g)
     (subst (λ (f : Flow). waits p ≡ false → IfSome (map p) (λ m. is_placed f p m ≡ true)) same placed)
 
-pub solving_ends : (flow : Flow) (map : ℕ → Option AbstractState) (waits : ℕ → Bool) → IsSolving flow map waits → ((x : ℕ) → waits x ≡ false) → IsSolved flow map
+pub solving_ends : (flow : Flow) (map : ℕ → Option AbstractState) (waits : ℕ → Bool) → IsSolving flow map waits →
+    ((x : ℕ) → waits x ≡ false) → IsSolved flow map
 solving_ends flow map waits s none = solving_end flow map waits s none

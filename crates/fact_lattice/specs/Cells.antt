@@ -14,7 +14,8 @@ use Rattle.path_facts.specs.Facts.Source.{Nothing, Constant, Sum, Copy, IfMarked
 use Rattle.path_facts.specs.Histories.{without_marks_below}
 use Rattle.fact_lattice.specs.declared.cells.Range.{Range}
 
--- What one instruction does at one offset of r13: each location's source, and each stack word's mark by its mark before.
+-- What one instruction does at one offset of r13: each location's source, and each stack word's mark by its mark
+-- before.
 pub record Step : Type 0 where
   pub source : Location → Source
   pub mark : ℕ → Bool → Bool

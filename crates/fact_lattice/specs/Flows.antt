@@ -1,5 +1,6 @@
 -- Points by their numbers, the facts along their histories, and what is to be found out of them.
-use Rattle.std.specs.Prelude.{◌≡◌, ◌≢◌, ◌⊎◌, ℕ, ℤ, pos, neg_ℤ, ◌<ℤ◌, ◌||◌, not, Bool, true, false, Contains, List, [], ◌∷◌}
+use Rattle.std.specs.Prelude.{◌≡◌, ◌≢◌, ◌⊎◌, ℕ, ℤ, pos, neg_ℤ, ◌<ℤ◌, ◌||◌, not, Bool, true, false, Contains, List, []}
+use Rattle.std.specs.Prelude.{◌∷◌}
 use Rattle.std.specs.Prelude.{Option, Some, None, IfSome, IsSomeAnd, is_some, option_and_then}
 use Rattle.control_flow.specs.Routes.{IsHistory, Taken, Way}
 use Rattle.control_flow.specs.Routes.Place.{At}

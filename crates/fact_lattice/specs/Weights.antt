@@ -24,7 +24,8 @@ weight_of_mark b = if b then 1 else 0
 
 abbrev pub weight_of : ℕ → List Location → List ℕ → AbstractState → ℕ
 weight_of stack locations words m =
-    total (λ location. weight_of_cell stack (m.cell location)) locations + total (λ k. weight_of_mark (m.marked k)) words
+    total (λ location. weight_of_cell stack (m.cell location)) locations + total
+    (λ k. weight_of_mark (m.marked k)) words
 
 -- a point that wasn't reached is heavier than any that was
 abbrev pub weight_at : ℕ → List Location → List ℕ → Option AbstractState → ℕ

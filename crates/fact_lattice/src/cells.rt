@@ -3,7 +3,8 @@
 ghost use Rattle.std.specs.Prelude.{◌≡◌, ◌+◌, ◌+ℤ◌, ◌*◌, ◌&&◌, pos, neg_ℤ, int_le, nat_le, true, false};
 ghost use Rattle.std.specs.Prelude.{IfSome, IfNone};
 ghost use Rattle.path_facts.specs.Facts.{is_signed_word};
-ghost use Rattle.fact_lattice.specs.Cells.{constant_cell, is_start_sp, joined_cell, may_span, same_origin, shifted_cell};
+ghost use Rattle.fact_lattice.specs.Cells.{constant_cell, is_start_sp, joined_cell, may_span, same_origin};
+ghost use Rattle.fact_lattice.specs.Cells.{shifted_cell};
 ghost use Rattle.fact_lattice.specs.Cells.{all_above, same_cell};
 
 use path_facts::Origin;

@@ -1,6 +1,7 @@
 //! The search for what all paths say: a worklist of points, over any order of them.
 
-ghost use Rattle.std.specs.Prelude.{◌≡◌, ℕ, ◌+◌, ◌*◌, ◌<◌, ◌≤◌, Bool, true, false, if◌then◌else◌, Option, is_some, length, IfOk, IfErr, OnOk, IfSome};
+ghost use Rattle.std.specs.Prelude.{◌≡◌, ℕ, ◌+◌, ◌*◌, ◌<◌, ◌≤◌, Bool, true, false, if◌then◌else◌, Option, is_some};
+ghost use Rattle.std.specs.Prelude.{length, IfOk, IfErr, OnOk, IfSome};
 ghost use Rattle.std.specs.Ordering.{nat_cmp};
 ghost use Rattle.std.specs.BTreeSet as tree;
 ghost use Rattle.std.specs.BTreeSet.{btree_set_len};
@@ -51,7 +52,8 @@ pub trait Merging {
         ensures sound { OnOk result (sound self.new) }
         ensures same { OnOk result (flow self.new ≡ flow self.old) }
         ensures went { IfOk result (Merged (flow self.old) point way (map self.old) (map self.new)) }
-        ensures less { IfOk result (λ changed. (if is_some changed then 1 else 0) + weight self.new ≤ weight self.old) };
+        ensures less { IfOk result
+            (λ changed. (if is_some changed then 1 else 0) + weight self.new ≤ weight self.old) };
 }
 
 /// Merges what is known after a point into what is known where its ways lead.
@@ -62,9 +64,14 @@ pub fn pass<M: Merging>(states: &mut M, waiting: &mut BTreeSet<u32>, point: u32)
     requires visited { is_some (M.map states.old point) ≡ true }
     ensures sound { OnOk result (M.sound states.new) }
     ensures same { OnOk result (M.flow states.new ≡ M.flow states.old) }
-    ensures went { OnOk result (Passed (M.flow states.old) point (length ((M.flow states.old).ways point)) (M.map states.old) (M.map states.new) (tree.contains nat_cmp waiting.old) (tree.contains nat_cmp waiting.new)) }
-    ensures placed { OnOk result (tree.contains nat_cmp waiting.new point ≡ false → IfSome (M.map states.old point) (λ m. is_placed (M.flow states.old) point m ≡ true)) }
-    ensures less { OnOk result (btree_set_len waiting.new + 2 * M.weight states.new ≤ btree_set_len waiting.old + 2 * M.weight states.old) }
+    ensures went { OnOk result
+        (Passed (M.flow states.old) point (length ((M.flow states.old).ways point)) (M.map states.old)
+        (M.map states.new) (tree.contains nat_cmp waiting.old) (tree.contains nat_cmp waiting.new)) }
+    ensures placed { OnOk result
+        (tree.contains nat_cmp waiting.new point ≡ false → IfSome (M.map states.old point)
+        (λ m. is_placed (M.flow states.old) point m ≡ true)) }
+    ensures less { OnOk result
+        (btree_set_len waiting.new + 2 * M.weight states.new ≤ btree_set_len waiting.old + 2 * M.weight states.old) }
     ensures stop { IfErr result (IsStopAt (M.flow states.old)) }
 {
     let count = states.ways(point);

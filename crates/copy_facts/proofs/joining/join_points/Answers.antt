@@ -14,9 +14,11 @@ returns-then-other_words-other_registers-clause-differs c =
     elim (or_cases c.in_ok-other_words.other_words c.join_registers-other_registers.result c.if-other_words-other_registers.true)
     as (λ _. joined c.args.stack (state_of_point old) (state_of_point new) ≢ state_of_point old) [
       | inl w ↦
-          state_differs_by_word c.args.stack old.registers new.registers c.join_registers-other_registers.new.registers old.words.items new.words.items c.join_word_lists.new.out.items cells (search rules)
+          state_differs_by_word c.args.stack old.registers new.registers c.join_registers-other_registers.new.registers old.words.items
+          new.words.items c.join_word_lists.new.out.items cells (search rules)
           (c.in_ok-other_words.ensures.differs w)
       | inr r ↦
-          state_differs_by_register c.args.stack old.registers new.registers c.join_registers-other_registers.new.registers old.words.items new.words.items c.join_word_lists.new.out.items cells (search rules)
+          state_differs_by_register c.args.stack old.registers new.registers c.join_registers-other_registers.new.registers old.words.items
+          new.words.items c.join_word_lists.new.out.items cells (search rules)
           (c.join_registers-other_registers.ensures.differs r)
     ]

@@ -9,6 +9,7 @@ loop-word-preserved c =
     record {
       within = omega (arith, l);
       entries =
-          all_on (stepped_entry c.args.stack c.args.site.now c.args.done c.args.facts.now) c.loop-word.word c.loop-word.out.items c.word_after.result c.put.new.words.items
+          all_on (stepped_entry c.args.stack c.args.site.now c.args.done c.args.facts.now) c.loop-word.word c.loop-word.out.items
+          c.word_after.result c.put.new.words.items
           c.loop-word.invariant.entries c.word_after.ensures (ap (λ e. e.word) c.word_after.ensures) (search rules);
     }

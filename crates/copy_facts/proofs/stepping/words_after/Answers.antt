@@ -11,5 +11,7 @@ step_old-requires-2-clause-quiet c k from below = c.new_words-from.ensures.quiet
 
 pub returns-clause-entries : goal.returns-clause-entries
 returns-clause-entries c =
-    all_entries (stepped_entry c.args.stack c.args.site.now c.args.done c.args.facts.now) c.args.facts.now.words.items c.step_old-2.new.out.items c.new_words-from.result.1 (search rules)
-    c.requires.table.rising c.new_words-from.ensures.below (λ k from. c.new_words-from.ensures.quiet c.args.stack k c.requires.small (inr from))
+    all_entries (stepped_entry c.args.stack c.args.site.now c.args.done c.args.facts.now) c.args.facts.now.words.items
+    c.step_old-2.new.out.items c.new_words-from.result.1 (search rules)
+    c.requires.table.rising c.new_words-from.ensures.below
+    (λ k from. c.new_words-from.ensures.quiet c.args.stack k c.requires.small (inr from))

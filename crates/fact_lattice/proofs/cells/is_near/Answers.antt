@@ -12,5 +12,6 @@ returns c =
     let g = c.ranges.low.sfits in
     let h = c.ranges.stack.fits in
     let x : to_z w64 (of_z w64 c.from.result) ≡ c.args.high = omega (arith, ints, a, f) in
-    let y : to_z w64 (of_z w64 (to_z w64 (of_z w64 (to_z w64 (of_z w64 c.from-2.result) +ℤ to_z w64 (of_z w64 c.from-3.result))) +ℤ pos 64)) ≡ c.args.low +ℤ pos (c.args.stack + 64) = omega (arith, ints, b, d, g, h) in
+    let y : to_z w64 (of_z w64 (to_z w64 (of_z w64 (to_z w64 (of_z w64 c.from-2.result) +ℤ to_z w64 (of_z w64 c.from-3.result))) +ℤ pos 64))
+    ≡ c.args.low +ℤ pos (c.args.stack + 64) = omega (arith, ints, b, d, g, h) in
     λ j. int_le (x j) (y j)

@@ -1,4 +1,5 @@
-use Rattle.fact_lattice.proofs.SolvedLemmas.{none_lost, offset_everywhere, known_everywhere, kept_everywhere, over_everywhere, unproved_everywhere, unreached}
+use Rattle.fact_lattice.proofs.SolvedLemmas.{none_lost, offset_everywhere, known_everywhere, kept_everywhere, over_everywhere}
+use Rattle.fact_lattice.proofs.SolvedLemmas.{unproved_everywhere, unreached}
 use Rattle.fact_lattice.proofs.laws.solved_maps_are_exact.Goals as goal
 
 pub returns-clause-lost : goal.returns-clause-lost

@@ -12,7 +12,8 @@ invariant-loop-way g l =
       sound : M.sound l.states;
       same : M.flow l.states ≡ M.flow l.fn.states;
       within : l.way ≤ l.count;
-      passed : Passed (M.flow l.fn.states) l.point l.way (M.map l.fn.states) (M.map l.states) (tree.contains nat_cmp l.fn.waiting) (tree.contains nat_cmp l.waiting);
+      passed : Passed (M.flow l.fn.states) l.point l.way (M.map l.fn.states) (M.map l.states) (tree.contains nat_cmp l.fn.waiting)
+          (tree.contains nat_cmp l.waiting);
       less : btree_set_len l.waiting + 2 * M.weight l.states ≤ btree_set_len l.fn.waiting + 2 * M.weight l.fn.states;
     }
 
