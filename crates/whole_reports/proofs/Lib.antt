@@ -1,0 +1,10 @@
+pub mod CleanLaws
+pub mod FormulaClean
+pub mod KindLaws
+pub mod OtherLaws
+pub mod ReportLaws
+pub mod RowLaws
+pub mod StepLaws
+pub mod VerdictLaws
+pub mod WalkLaws
+pub mod WordLaws
