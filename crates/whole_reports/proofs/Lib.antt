@@ -2,6 +2,7 @@ pub mod CleanLaws
 pub mod FormulaClean
 pub mod KindLaws
 pub mod OtherLaws
+pub mod Parts
 pub mod ReportLaws
 pub mod RowLaws
 pub mod StepLaws

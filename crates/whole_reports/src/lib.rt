@@ -5,7 +5,9 @@
 mod laws;
 mod verdicts;
 mod walking;
+mod writing;
 
 pub use laws::reports_are_read;
 pub use verdicts::ReadRefusal;
 pub use walking::read_report;
+pub use writing::write_report;
