@@ -225,7 +225,7 @@ fn push_row_words(out: &mut String, params: &[ParamRange], row: &Row) -> Result<
 pub fn push_fact(
     out: &mut String,
     params: &[ParamRange],
-    number: u32,
+    number: u64,
     fact: &Fact,
 ) -> Result<(), AllocError>
     ensures { OnOk result (string_bytes out.new ≡ string_bytes out.old ++ line_text params.now (line.Fact number fact.now)) }
@@ -259,7 +259,7 @@ pub fn push_atom(out: &mut String, params: &[ParamRange], atom: &Atom) -> Result
 
 pub fn push_loop(
     out: &mut String,
-    number: u32,
+    number: u64,
     header: u32,
     depth: u32,
     atoms: u64,
@@ -295,7 +295,7 @@ fn push_atom_count(out: &mut String, number: u64) -> Result<(), AllocError>
     Ok(())
 }
 
-pub fn push_block(out: &mut String, number: u32, block: &ReportBlock) -> Result<(), AllocError>
+pub fn push_block(out: &mut String, number: u64, block: &ReportBlock) -> Result<(), AllocError>
     ensures { OnOk result (string_bytes out.new ≡ string_bytes out.old ++ line_text [] (line.Block number block.now)) }
 {
     out.push_str("block")?;
@@ -386,16 +386,16 @@ pub fn push_line(out: &mut String, params: &[ParamRange], line: &Line) -> Result
         Line::Function { entry, stack } => push_function(out, *entry, *stack),
         Line::Timing(timing) => push_timing(out, timing),
         Line::Param(param) => push_param(out, param),
-        Line::Block { number, block } => push_block(out, *number, block),
+        Line::Block { number, block } => push_block(out, u64::from(*number), block),
         Line::Loop {
             number,
             header,
             depth,
             atoms,
-        } => push_loop(out, *number, *header, *depth, *atoms),
+        } => push_loop(out, u64::from(*number), *header, *depth, *atoms),
         Line::Atom(atom) => push_atom(out, params, atom),
         Line::Row(row) => push_row(out, params, row),
-        Line::Fact { number, fact } => push_fact(out, params, *number, fact),
+        Line::Fact { number, fact } => push_fact(out, params, u64::from(*number), fact),
         Line::Proof(proof) => push_proof(out, proof),
         Line::Tree(tree) => push_tree_line(out, tree),
         Line::Formula(formula) => push_term_line(out, formula),

@@ -1,0 +1,11 @@
+pub mod CleanLaws
+pub mod FormulaClean
+pub mod KindLaws
+pub mod OtherLaws
+pub mod Parts
+pub mod ReportLaws
+pub mod RowLaws
+pub mod StepLaws
+pub mod VerdictLaws
+pub mod WalkLaws
+pub mod WordLaws
