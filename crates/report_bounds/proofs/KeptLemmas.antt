@@ -1,11 +1,11 @@
 -- A report keeps its promises.
-use Rattle.std.proofs.Common.{◌≡◌, ℕ, zero, suc, ◌-◌, ◌<◌, ◌^◌, ℤ, Option, Some, None, List, [], ◌∷◌, refl, sym, ap, subst}
+use Rattle.std.proofs.Common.{◌≡◌, ℕ, zero, suc, ◌-◌, ◌<◌, ◌^◌, ℤ, List, [], ◌∷◌, refl, sym, ap, subst}
 use Rattle.std.specs.Prelude.{slice_get}
 use Rattle.std.specs.List.{AllByRecursion}
 use Rattle.elf32_image.specs.Parts.{ImageValue}
 use Rattle.fetch_timing.specs.declared.timing.Timing.{Timing}
 use Rattle.wsym_terms.specs.declared.trees.Tree.{Tree}
-use Rattle.wsym_terms.specs.Bounds.{bound_value, least_atom}
+use Rattle.wsym_terms.specs.Bounds.{least_atom}
 use Rattle.wsym_terms.specs.Extents.{Extent, Infinite, IsWithin}
 use Rattle.wsym_terms.specs.Trees.{tree_value}
 use Rattle.path_facts.specs.Histories.{IsFollowed}
@@ -24,7 +24,8 @@ pub report_bound : (image : ImageValue) (t : Timing) (entry stack : ℕ) (a : An
     → KeepsTurns image report a → IsBound image report
 report_bound image t entry stack a report word small some any followed is of turns values ranged s n c start returns =
     let followed_here : IsFollowed image report.entry report.stack =
-    subst (λ (k : ℕ). IsFollowed image report.entry k) (sym of.stack_is) (subst (λ (k : ℕ). IsFollowed image k stack) (sym of.entry_is) followed) in
+    subst (λ (k : ℕ). IsFollowed image report.entry k) (sym of.stack_is) (subst
+    (λ (k : ℕ). IsFollowed image k stack) (sym of.entry_is) followed) in
     let is_here : IsAnalysisOf image report.timing report.entry a =
     subst (λ (k : ℕ). IsAnalysisOf image report.timing k a) (sym of.entry_is)
     (subst (λ (u : Timing). IsAnalysisOf image u entry a) (sym of.timing_is) is) in
