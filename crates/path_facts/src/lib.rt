@@ -2,7 +2,8 @@
 //!
 //! A fact says that a location holds an origin plus a constant. The definitions in `specs/` say which facts each
 //! instruction leaves (`Sources.antt`), which a history of a function has (`Histories.antt`) and what a run along a
-//! route is (`Routes.antt`). There is no code here: the laws are calls without a body.
+//! route is (`Routes.antt`). There is no code here but the type of origins: the laws are calls without
+//! a body.
 #![tactic(auto)]
 
 mod laws;
