@@ -56,7 +56,9 @@ lower i n e = grind (arith, nat_tests, e)
 
 held_number : (f n k : ℕ) → k < n → holds nat_eq (f + k) (numbers_from f n) ≡ true
 held_number f zero k lt = absurd (omega (arith, lt))
-held_number f (suc n) zero lt = (let e : f + 0 ≡ f = omega arith in either (nat_eq (f + 0) f) (holds nat_eq (f + 0) (numbers_from (f + 1) n)) (inl (same_test (f + 0) f e)))
+held_number f (suc n) zero lt =
+    let e : f + 0 ≡ f = omega arith in
+    either (nat_eq (f + 0) f) (holds nat_eq (f + 0) (numbers_from (f + 1) n)) (inl (same_test (f + 0) f e))
 held_number f (suc n) (suc k) lt =
     let e : f + 1 + k ≡ f + suc k = omega arith in
     either (nat_eq (f + suc k) f) (holds nat_eq (f + suc k) (numbers_from (f + 1) n))
@@ -251,7 +253,8 @@ module _ (image : ImageValue) (entry : ℕ) (g : BlockGraph) (is : IsGraphOf ima
             ∙ first_numbers (first_of g.blocks c) (length (y.0).points) 0 (graph_linked.some c y.0 y.1) in
             subst (λ (q : ℕ). Leads (maps_of n p) q (first_or 0 (row_in p.rows c))) (sym last)
             (subst (Leads (maps_of n p) (first_of g.blocks b + (length (x.0).points - 1))) (sym first)
-            (next_across (ways_from image entry) (instruction_at image) (entry_point entry) g by t n p are b c (length (x.0).points - 1) x.0 x.1 size listed lt))
+            (next_across (ways_from image entry) (instruction_at image) (entry_point entry) g by t n p are b c
+            (length (x.0).points - 1) x.0 x.1 size listed lt))
 
     pub rows_inside : (b q : ℕ) → holds nat_eq q (row_in p.rows b) ≡ true → q < length p.home
     rows_inside b q e = by_side (side b (length g.blocks))

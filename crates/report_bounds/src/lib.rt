@@ -1,5 +1,5 @@
-//! What a report promises of the runs of its function: that no returning run costs more than the value of its tree, which
-//! its formula has. There is no code here: the laws are calls without a body.
+//! What a report promises of the runs of its function: that no returning run costs more than the value of its tree,
+//! which its formula has. There is no code here: the laws are calls without a body.
 #![tactic(auto)]
 
 ghost use Rattle.std.specs.Prelude.{◌≡◌, ◌<◌, ◌^◌, ℕ};
@@ -12,8 +12,8 @@ ghost use Rattle.report_lines.specs.declared.report.Report.{Report as ReportValu
 ghost use Rattle.report_bounds.specs.Descriptions.{IsReportOf};
 ghost use Rattle.report_bounds.specs.Promises.{HasNoBounds, IsBound, IsExact, IsFormulaBound, KeepsTurns};
 
-/// The value of a report's tree bounds the runs of the function that the report is of, for all values of its parameters,
-/// where each run keeps the printed bounds of the loops.
+/// The value of a report's tree bounds the runs of the function that the report is of, for all values of its
+/// parameters, where each run keeps the printed bounds of the loops.
 pub fn reports_are_bounds()
     ensures { (image : ImageValue) (t : Timing) (entry stack : ℕ) (a : Analysis) (report : ReportValue)
         → entry < 2 ^ 32 → stack < 2 ^ 31 → 0 < t.sets → 0 < t.ways → IsFollowed image entry stack

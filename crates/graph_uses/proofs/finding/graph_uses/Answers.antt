@@ -21,7 +21,8 @@ number_points-requires-clause-some c =
 pub uses_of_points-requires-clause-count : goal.uses_of_points-requires-clause-count
 uses_of_points-requires-clause-count c =
     let w = c.requires.graph in
-    let are = subst (λ (bs : List Block). ArePoints c.args.timing.now bs c.in_ok-points.points) c.as_slice-2.ensures c.in_ok-points.ensures in
+    let are =
+    subst (λ (bs : List Block). ArePoints c.args.timing.now bs c.in_ok-points.points) c.as_slice-2.ensures c.in_ok-points.ensures in
     let size = home_total w.0 w.1 c.args.graph.now w.2 c.args.timing.now c.args.nest.now c.in_ok-points.points are in
     let sum = ap total_of (sym c.as_slice.ensures) ∙ c.in-Some.ensures.some in
     omega (arith, size, sum)
@@ -29,7 +30,8 @@ uses_of_points-requires-clause-count c =
 pub uses_of_points-requires-clause-maps : goal.uses_of_points-requires-clause-maps
 uses_of_points-requires-clause-maps c =
     let w = c.requires.graph in
-    let are = subst (λ (bs : List Block). ArePoints c.args.timing.now bs c.in_ok-points.points) c.as_slice-2.ensures c.in_ok-points.ensures in
+    let are =
+    subst (λ (bs : List Block). ArePoints c.args.timing.now bs c.in_ok-points.points) c.as_slice-2.ensures c.in_ok-points.ensures in
     let sum = ap total_of (sym c.as_slice.ensures) ∙ c.in-Some.ensures.some in
     let few : total_of c.args.graph.now.blocks < 2 ^ 32 = omega (arith, sum) in
     c.blocks_of_a_nest_are_a_function.ensures (flow_in c.args.graph.now) c.args.nest.now c.in_ok-points.points.rows
@@ -40,5 +42,6 @@ uses_of_points-requires-clause-maps c =
 pub uses_of_points-requires-clause-inside : goal.uses_of_points-requires-clause-inside
 uses_of_points-requires-clause-inside c =
     let w = c.requires.graph in
-    let are = subst (λ (bs : List Block). ArePoints c.args.timing.now bs c.in_ok-points.points) c.as_slice-2.ensures c.in_ok-points.ensures in
+    let are =
+    subst (λ (bs : List Block). ArePoints c.args.timing.now bs c.in_ok-points.points) c.as_slice-2.ensures c.in_ok-points.ensures in
     rows_inside w.0 w.1 c.args.graph.now w.2 c.args.timing.now c.args.nest.now c.in_ok-points.points are
