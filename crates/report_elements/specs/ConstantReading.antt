@@ -1,3 +1,4 @@
+-- How a constant is read: runs, each a value and a count, and the value that goes on for ever.
 use Rattle.std.specs.Prelude.{ℕ, ◌^◌, ◌==◌, ◌&&◌, ◌||◌, if◌then◌else◌, Bool, true, false, List, [], ◌∷◌, ◌++◌, Option, Some, None, nat_lt}
 use Rattle.std.specs.Option.{option_map, option_and_then}
 use Rattle.wsym_terms.specs.declared.costs.Cost.{Cost}
@@ -22,7 +23,8 @@ with_tail runs digits (b ∷ bs) =
 abbrev pub last_run : List Run → Option ℕ → List ℕ → List ℕ → Option CostList
 last_run runs None [] bs = with_tail runs [] bs
 last_run runs None (d ∷ ds) bs = option_and_then (λ (r : Run). with_tail (runs ++ r ∷ []) [] bs) (run_of None (d ∷ ds))
-last_run runs (Some v) digits bs = option_and_then (λ (r : Run). with_tail (runs ++ r ∷ []) [] bs) (run_of (Some v) digits)
+last_run runs (Some v) digits bs =
+    option_and_then (λ (r : Run). with_tail (runs ++ r ∷ []) [] bs) (run_of (Some v) digits)
 
 abbrev pub runs_on : List Run → Option ℕ → List ℕ → List ℕ → Option CostList
 runs_on runs value digits [] = None

@@ -45,14 +45,16 @@ use_text u = decimal u.line ++ codes "@" ++ decimal u.scope
 
 -- (leaf BLOCK BASE USE*)
 abbrev pub leaf_text : ℕ → ℕ → List Use → List ℕ
-leaf_text block base uses = codes "(leaf " ++ decimal block ++ codes " " ++ decimal base ++ spaced use_text uses ++ codes ")"
+leaf_text block base uses =
+    codes "(leaf " ++ decimal block ++ codes " " ++ decimal base ++ spaced use_text uses ++ codes ")"
 
 -- (leaf ..), (seq TREE*), (alt TREE*), (loop I TREE TREE)
 abbrev pub tree_level : Tree-F (List ℕ) → List ℕ
 tree_level (Tree-F.Leaf block base uses) = leaf_text block base uses
 tree_level (Tree-F.Seq members) = codes "(seq" ++ in_brackets members ++ codes ")"
 tree_level (Tree-F.Alt choices) = codes "(alt" ++ in_brackets choices ++ codes ")"
-tree_level (Tree-F.Loop id body exit) = codes "(loop " ++ decimal id ++ codes " " ++ body ++ codes " " ++ exit ++ codes ")"
+tree_level (Tree-F.Loop id body exit) =
+    codes "(loop " ++ decimal id ++ codes " " ++ body ++ codes " " ++ exit ++ codes ")"
 
 abbrev pub tree_text : Tree → List ℕ
 tree_text = fold-Tree (List ℕ) tree_level

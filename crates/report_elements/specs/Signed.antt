@@ -1,3 +1,4 @@
+-- The number that decimal digits write, with `-` before a negative one.
 use Rattle.std.specs.Prelude.{ℕ, ℤ, pos, neg_ℤ, ◌==◌, if◌then◌else◌, List, [], ◌∷◌, Option, None}
 use Rattle.std.specs.Option.{option_map}
 use Rattle.report_elements.specs.Numbers.{number_below}

@@ -1,3 +1,4 @@
+-- How a tree is read, byte by byte with its open brackets, and which trees may stand in a report.
 use Rattle.std.specs.Prelude.{ℕ, zero, suc, ◌^◌, ◌==◌, ◌||◌, ◌&&◌, if◌then◌else◌, Bool, true, false, List, [], ◌∷◌, ◌++◌, Option, Some, None, codes, length, nat_le, nat_lt}
 use Rattle.std.specs.Option.{option_map, option_and_then}
 use Rattle.std.specs.Str.{bytes_eq}
@@ -31,13 +32,19 @@ opener limit word r =
     else None
 
 abbrev pub with_use : Reading → ℕ → ℕ → Use → Reading
-with_use r block base used = record { top = record { head = Leaf block base; uses = r.top.uses ++ used ∷ []; members = r.top.members }; below = r.below }
+with_use r block base used =
+    record {
+      top = record { head = Leaf block base; uses = r.top.uses ++ used ∷ []; members = r.top.members };
+      below = r.below;
+    }
 
 abbrev pub word_at : ℕ → List ℕ → Reading → Head → Option Reading
 word_at limit word r OpenLeaf = option_map (λ n. with_head r (Block n)) (number_below (2 ^ 32) 0 word)
 word_at limit word r (Block block) = option_map (λ n. with_head r (Leaf block n)) (number_below (2 ^ 127) 0 word)
-word_at limit word r (Leaf block base) = option_map (λ n. with_head r (Used block base n)) (number_below (2 ^ 32) 0 word)
-word_at limit word r (Used block base line) = option_map (λ n. with_use r block base (record { line = line; scope = n })) (number_below (2 ^ 32) 0 word)
+word_at limit word r (Leaf block base) =
+    option_map (λ n. with_head r (Used block base n)) (number_below (2 ^ 32) 0 word)
+word_at limit word r (Used block base line) =
+    option_map (λ n. with_use r block base (record { line = line; scope = n })) (number_below (2 ^ 32) 0 word)
 word_at limit word r OpenLoop = option_map (λ n. with_head r (Loop n)) (number_below (2 ^ 32) 0 word)
 word_at limit word r Top = opener limit word r
 word_at limit word r Seq = opener limit word r
@@ -121,7 +128,8 @@ is_loop loops id = nat_lt id (2 ^ 32) && nat_lt 0 id && nat_le id loops
 -- in one another than there is room for
 module _ (blocks loops : ℕ) where
   abbrev pub fits_level : Tree-F (ℕ → Bool) → ℕ → Bool
-  fits_level (Tree-F.Leaf block base uses) room = inside (λ r. is_block blocks block && nat_lt base (2 ^ 127) && uses_fit uses) room
+  fits_level (Tree-F.Leaf block base uses) room =
+      inside (λ r. is_block blocks block && nat_lt base (2 ^ 127) && uses_fit uses) room
   fits_level (Tree-F.Seq members) room = inside (all_fit members) room
   fits_level (Tree-F.Alt choices) room = inside (all_fit choices) room
   fits_level (Tree-F.Loop id body exit) room = inside (λ r. is_loop loops id && body r && exit r) room

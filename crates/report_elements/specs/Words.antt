@@ -47,7 +47,11 @@ address_of word = hex_on 0 (byte_off (byte_off word))
 
 -- numbers of 32 bits
 abbrev pub two : List (List ℕ) → Option (ℕ × ℕ)
-two ws = option_and_then (λ (a : ℕ). option_map (λ (b : ℕ). (a, b)) (front (number_below (2 ^ 32) 0) (behind ws))) (front (number_below (2 ^ 32) 0) ws)
+two ws =
+    option_and_then (λ (a : ℕ). option_map (λ (b : ℕ). (a, b)) (front (number_below (2 ^ 32) 0) (behind ws)))
+    (front (number_below (2 ^ 32) 0) ws)
 
 abbrev pub three : List (List ℕ) → Option (ℕ × ℕ × ℕ)
-three ws = option_and_then (λ (a : ℕ). option_map (λ (p : ℕ × ℕ). (a, p.0, p.1)) (two (behind ws))) (front (number_below (2 ^ 32) 0) ws)
+three ws =
+    option_and_then (λ (a : ℕ). option_map (λ (p : ℕ × ℕ). (a, p.0, p.1)) (two (behind ws)))
+    (front (number_below (2 ^ 32) 0) ws)

@@ -1,3 +1,5 @@
+//! Reads addresses.
+
 ghost use Rattle.std.specs.Prelude.{◌≡◌};
 ghost use Rattle.report_elements.specs.Words.{address_of};
 ghost use Rattle.report_elements.specs.Hexadecimal.{hex_on};

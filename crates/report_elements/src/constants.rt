@@ -1,3 +1,5 @@
+//! Reads the constants of a formula: lists of costs.
+
 ghost use Rattle.std.specs.Prelude.{◌≡◌, ◌&&◌, ◌<◌, ◌^◌, [], ◌∷◌, IfOk, IfSome, None, Some, nat_le, nat_lt};
 ghost use Rattle.report_elements.specs.ConstantReading.{cost_number, costs_of, last_run, run_of, runs_on, with_tail};
 ghost use Rattle.cost_multiset.specs.CostLists.{descends, next_value, places};

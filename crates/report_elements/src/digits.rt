@@ -1,3 +1,5 @@
+//! Reads decimal numbers.
+
 ghost use Rattle.std.specs.Prelude.{◌≡◌, ◌<◌, IfSome};
 ghost use Rattle.report_elements.specs.Numbers.{number_below};
 

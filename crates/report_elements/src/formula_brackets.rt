@@ -1,3 +1,5 @@
+//! The open brackets of a formula that is read, and what a word means in them.
+
 ghost use Rattle.std.specs.Prelude.{◌≡◌, IfOk, Some};
 ghost use Rattle.report_elements.specs.Constants.{list_of};
 ghost use Rattle.report_elements.specs.FormulaReading.{added, built_at, closed, opened, opener, single, with_head, word_in};

@@ -1,3 +1,5 @@
+//! Whether a formula may stand in a report.
+
 ghost use Rattle.std.specs.Prelude.{◌≡◌, ◌&&◌, map, nat_lt};
 ghost use Rattle.report_elements.specs.ConstantReading.{cost_fits, costs_fit, run_fits, runs_fit};
 ghost use Rattle.report_elements.specs.Constants.{is_list, list_fits};

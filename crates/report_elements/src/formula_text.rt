@@ -1,3 +1,5 @@
+//! Writes formulas.
+
 ghost use Rattle.std.specs.Prelude.{◌≡◌, ◌++◌, ◌∷◌, OnOk, string_bytes, codes};
 ghost use Rattle.report_elements.specs.Elements.{cost_text, run_text, runs_text, further_runs, costs_text, spaced, term_text};
 

@@ -1,3 +1,5 @@
+//! Reads formulas.
+
 ghost use Rattle.std.specs.Prelude.{◌≡◌, IfOk, List, Some, [], true, ℕ};
 ghost use Rattle.report_elements.specs.Constants.{list_fits, list_of};
 ghost use Rattle.report_elements.specs.FormulaReading.{ends, fits, parsed, run, single};

@@ -1,3 +1,5 @@
+//! Reads names.
+
 ghost use Rattle.std.specs.Prelude.{◌≡◌, [], IfOk};
 ghost use Rattle.report_elements.specs.Names.{ascii_on};
 

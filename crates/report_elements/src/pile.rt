@@ -1,3 +1,5 @@
+//! A pile, from which the last item that was put on it is taken first.
+
 ghost use Rattle.std.specs.Prelude.{◌≡◌, [], ◌∷◌, length, MatchOption, OnOk};
 
 use std::alloc::{AllocError, Global};

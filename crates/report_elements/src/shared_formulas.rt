@@ -1,3 +1,5 @@
+//! Formulas as tables of shared nodes, and their text.
+
 ghost use Rattle.std.specs.Prelude.{◌≡◌, ◌++◌, ◌∷◌, ◌<◌, ◌-◌, length, IfOk, OnOk, Some, slice_get, string_bytes, codes};
 ghost use Rattle.std.specs.Fmt.{decimal};
 ghost use Rattle.report_elements.specs.Elements.{spaced, term_text};

@@ -1,3 +1,5 @@
+//! How large trees and formulas are, up to a limit.
+
 ghost use Rattle.std.specs.Prelude.{◌≡◌, ◌+◌, ◌<◌, ◌≤◌, ◌^◌, map, min};
 ghost use Rattle.cost_multiset.specs.CostLists.{places};
 ghost use Rattle.simplifier.specs.Sizes.{nodes_of};

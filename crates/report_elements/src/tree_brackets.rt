@@ -1,3 +1,5 @@
+//! The open brackets of a tree that is read, and what a word means in them.
+
 ghost use Rattle.std.specs.Prelude.{◌≡◌, IfOk, Some};
 ghost use Rattle.report_elements.specs.TreeReading.{built, closed, loop_of, opened, opener, with_head, with_use, word_in};
 

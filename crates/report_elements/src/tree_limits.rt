@@ -1,3 +1,5 @@
+//! Whether a tree may stand in a report.
+
 ghost use Rattle.std.specs.Prelude.{◌≡◌, ◌&&◌, ◌^◌, map, nat_lt};
 ghost use Rattle.report_elements.specs.TreeReading.{all_fit, fits, is_block, is_loop, uses_fit};
 

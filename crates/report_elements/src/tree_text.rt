@@ -1,3 +1,5 @@
+//! Writes trees.
+
 ghost use Rattle.std.specs.Prelude.{◌≡◌, ◌++◌, ◌∷◌, OnOk, string_bytes, codes};
 ghost use Rattle.report_elements.specs.Elements.{use_text, leaf_text, spaced, tree_text};
 

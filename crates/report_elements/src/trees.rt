@@ -1,3 +1,5 @@
+//! Reads trees.
+
 ghost use Rattle.std.specs.Prelude.{◌≡◌, IfOk, List, Some, [], true, ℕ};
 ghost use Rattle.report_elements.specs.TreeReading.{ends, fits, kept, parsed, read_of, run, single};
 ghost use Rattle.report_elements.specs.Elements.{tree_text};

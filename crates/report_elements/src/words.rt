@@ -1,3 +1,5 @@
+//! The words of a line, read one after another.
+
 ghost use Rattle.std.specs.Prelude.{◌≡◌, ◌<◌, ◌^◌, unsigned_abs, [], ◌∷◌, length, MatchOption, IfSome};
 ghost use Rattle.report_elements.specs.Words.{address_of, before, behind, byte_off, from, front, three, two, words};
 ghost use Rattle.report_elements.specs.Numbers.{number_below};

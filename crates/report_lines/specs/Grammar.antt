@@ -56,8 +56,10 @@ abbrev pub about_text : About → Way → List ℕ
 about_text (about.Fact number) w = codes "step" ++ (32 ∷ (decimal number ++ in_brackets (way_words w)))
 about_text (about.Low block index) w = codes "low" ++ (32 ∷ (decimal block ++ (32 ∷ decimal index)))
 about_text (about.High block index) w = codes "high" ++ (32 ∷ (decimal block ++ (32 ∷ decimal index)))
-about_text (about.Turn id atom) w = codes "turn" ++ (32 ∷ (decimal id ++ (32 ∷ (decimal atom ++ in_brackets (way_words w)))))
-about_text (about.Closing place row) w = codes "closing" ++ (32 ∷ (decimal place ++ (32 ∷ (decimal row ++ in_brackets (way_words w)))))
+about_text (about.Turn id atom) w =
+    codes "turn" ++ (32 ∷ (decimal id ++ (32 ∷ (decimal atom ++ in_brackets (way_words w)))))
+about_text (about.Closing place row) w =
+    codes "closing" ++ (32 ∷ (decimal place ++ (32 ∷ (decimal row ++ in_brackets (way_words w)))))
 
 abbrev pub timing_numbers : Timing → List ℕ
 timing_numbers t = t.sets ∷ t.ways ∷ t.line ∷ t.miss ∷ t.skipped ∷ t.register ∷ t.classes
@@ -67,12 +69,17 @@ abbrev pub line_words : List ParamRange → Line → List (List ℕ)
 line_words params (line.Version v) = decimal v ∷ []
 line_words params (line.Function entry stack) = address_text entry ∷ codes "stack" ∷ decimal stack ∷ []
 line_words params (line.Timing t) = map decimal (timing_numbers t)
-line_words params (line.Param p) = p.name ∷ (114 ∷ decimal p.register) ∷ signed_decimal p.low ∷ signed_decimal p.high ∷ []
+line_words params (line.Param p) =
+    p.name ∷ (114 ∷ decimal p.register) ∷ signed_decimal p.low ∷ signed_decimal p.high ∷ []
 line_words params (line.Block i b) = decimal i ∷ address_text b.address ∷ decimal b.points ∷ map address_text b.returns
-line_words params (line.Loop i header depth atoms) = decimal i ∷ codes "header" ∷ decimal header ∷ codes "depth" ∷ decimal depth ∷ codes "atoms" ∷ decimal atoms ∷ []
+line_words params (line.Loop i header depth atoms) =
+    decimal i ∷ codes "header" ∷ decimal header ∷ codes "depth" ∷ decimal depth ∷ codes "atoms" ∷ decimal atoms ∷ []
 line_words params (line.Atom a) = signed_decimal a.constant ∷ signed_decimal a.divisor ∷ map (coef_text params) a.coefs
-line_words params (line.Row r) = decimal r.block ∷ signed_decimal r.row.constant ∷ map (row_term_text params) r.row.terms
-line_words params (line.Fact i q) = decimal i ∷ decimal q.block ∷ decimal q.index ∷ signed_decimal q.row.constant ∷ map (row_term_text params) q.row.terms
+line_words params (line.Row r) =
+    decimal r.block ∷ signed_decimal r.row.constant ∷ map (row_term_text params) r.row.terms
+line_words params (line.Fact i q) =
+    decimal i ∷ decimal q.block ∷ decimal q.index ∷ signed_decimal q.row.constant
+    ∷ map (row_term_text params) q.row.terms
 line_words params (line.Proof p) = proof_words p p.about
 line_words params (line.Tree t) = []
 line_words params (line.Formula t) = []
@@ -84,7 +91,8 @@ line_text params (line.Function entry stack) = joined (codes "function") (line_w
 line_text params (line.Timing t) = joined (codes "timing") (line_words params (line.Timing t))
 line_text params (line.Param p) = joined (codes "param") (line_words params (line.Param p))
 line_text params (line.Block i b) = joined (codes "block") (line_words params (line.Block i b))
-line_text params (line.Loop i header depth atoms) = joined (codes "loop") (line_words params (line.Loop i header depth atoms))
+line_text params (line.Loop i header depth atoms) =
+    joined (codes "loop") (line_words params (line.Loop i header depth atoms))
 line_text params (line.Atom a) = joined (codes "atom") (line_words params (line.Atom a))
 line_text params (line.Row r) = joined (codes "row") (line_words params (line.Row r))
 line_text params (line.Fact i q) = joined (codes "fact") (line_words params (line.Fact i q))
@@ -100,7 +108,8 @@ block_lines i (b ∷ blocks) = line.Block i b ∷ block_lines (i + 1) blocks
 
 abbrev pub loop_lines : ℕ → List ReportLoop → List Line
 loop_lines i [] = []
-loop_lines i (l ∷ loops) = line.Loop i l.header l.depth (length l.bound.atoms) ∷ (map line.Atom l.bound.atoms ++ loop_lines (i + 1) loops)
+loop_lines i (l ∷ loops) =
+    line.Loop i l.header l.depth (length l.bound.atoms) ∷ (map line.Atom l.bound.atoms ++ loop_lines (i + 1) loops)
 
 abbrev pub fact_lines : ℕ → List Fact → List Line
 fact_lines i [] = []
@@ -109,7 +118,8 @@ fact_lines i (q ∷ facts) = line.Fact i q ∷ fact_lines (i + 1) facts
 abbrev pub lines_of : Report → List Line
 lines_of r =
     line.Version r.version ∷ line.Function r.entry r.stack ∷ line.Timing r.timing ∷ (map line.Param r.params
-    ++ (block_lines 0 r.blocks ++ (loop_lines 1 r.loops ++ (map line.Row r.rows ++ (fact_lines 0 r.facts ++ (map line.Proof r.proofs
+    ++ (block_lines 0 r.blocks ++ (loop_lines 1 r.loops ++ (map line.Row r.rows
+    ++ (fact_lines 0 r.facts ++ (map line.Proof r.proofs
     ++ (line.Tree r.tree ∷ line.Formula r.formula ∷ line.End ∷ [])))))))
 
 abbrev pub lines_text : List ParamRange → List Line → List ℕ

@@ -52,7 +52,8 @@ pair_of word = pair_with (number_below (2 ^ 64) 0 (before 42 word)) (number_belo
 -- the first parameter of a name, by its place
 abbrev pub place_of : ℕ → List ParamRange → List ℕ → Option ℕ
 place_of k [] name = None
-place_of k (p ∷ ps) name = if bytes_eq p.name name then Some k else if k == 4294967295 then None else place_of (k + 1) ps name
+place_of k (p ∷ ps) name =
+    if bytes_eq p.name name then Some k else if k == 4294967295 then None else place_of (k + 1) ps name
 
 -- FACTOR*NAME
 abbrev pub coef_with : Option ℤ → Option ℕ → Option Coef
@@ -98,7 +99,9 @@ abbrev pub row_with : ℤ → List RowTerm → Option Inequality
 row_with constant terms = if collected terms then row_of (record { terms = terms; constant = neg_ℤ constant }) else None
 
 abbrev pub row_from : List ParamRange → List (List ℕ) → Option Inequality
-row_from params ws = option_and_then (λ (c : ℤ). option_and_then (λ (ts : List RowTerm). row_with c ts) (all_on (term_of params) [] (behind ws))) (front signed_word ws)
+row_from params ws =
+    option_and_then (λ (c : ℤ). option_and_then (λ (ts : List RowTerm). row_with c ts)
+    (all_on (term_of params) [] (behind ws))) (front signed_word ws)
 
 -- start, done U I, skip U I
 abbrev pub moved : Bool → Option (ℕ × ℕ) → Option Way
@@ -115,7 +118,10 @@ past_way (w ∷ ws) = if bytes_eq w (codes "start") then ws else behind (behind 
 
 -- D PAIR*
 abbrev pub ending_from : About → Way → List (List ℕ) → Option Line
-ending_from a w ws = option_and_then (λ (d : ℕ). option_map (λ (ms : List Multiplier). line.Proof (record { about = a; way = w; divisor = d; pairs = ms })) (all_on pair_of [] (behind ws))) (front (number_below (2 ^ 127) 0) ws)
+ending_from a w ws =
+    option_and_then (λ (d : ℕ). option_map
+    (λ (ms : List Multiplier). line.Proof (record { about = a; way = w; divisor = d; pairs = ms }))
+    (all_on pair_of [] (behind ws))) (front (number_below (2 ^ 127) 0) ws)
 
 abbrev pub waying_from : About → List (List ℕ) → Option Line
 waying_from a ws = option_and_then (λ (w : Way). ending_from a w (past_way ws)) (way_from ws)
@@ -127,39 +133,76 @@ abbrev pub turn_from : List (List ℕ) → Option Line
 turn_from ws = option_and_then (λ (p : ℕ × ℕ). waying_from (about.Turn p.0 p.1) (behind (behind ws))) (two ws)
 
 abbrev pub low_from : List (List ℕ) → Option Line
-low_from ws = option_and_then (λ (p : ℕ × ℕ). ending_from (about.Low p.0 p.1) (way.Done p.0 p.1) (behind (behind ws))) (two ws)
+low_from ws =
+    option_and_then (λ (p : ℕ × ℕ). ending_from (about.Low p.0 p.1) (way.Done p.0 p.1) (behind (behind ws))) (two ws)
 
 abbrev pub high_from : List (List ℕ) → Option Line
-high_from ws = option_and_then (λ (p : ℕ × ℕ). ending_from (about.High p.0 p.1) (way.Done p.0 p.1) (behind (behind ws))) (two ws)
+high_from ws =
+    option_and_then (λ (p : ℕ × ℕ). ending_from (about.High p.0 p.1) (way.Done p.0 p.1) (behind (behind ws))) (two ws)
 
 abbrev pub fact_from : List ParamRange → List (List ℕ) → Option Line
-fact_from params ws = option_and_then (λ (h : ℕ × ℕ × ℕ). option_map (λ (row : Inequality). line.Fact h.0 (record { block = h.1; index = h.2; row = row })) (row_from params (behind (behind (behind ws))))) (three ws)
+fact_from params ws =
+    option_and_then (λ (h : ℕ × ℕ × ℕ). option_map
+    (λ (row : Inequality). line.Fact h.0 (record { block = h.1; index = h.2; row = row }))
+    (row_from params (behind (behind (behind ws))))) (three ws)
 
 abbrev pub row_line_from : List ParamRange → List (List ℕ) → Option Line
-row_line_from params ws = option_and_then (λ (b : ℕ). option_map (λ (row : Inequality). line.Row (record { block = b; row = row })) (row_from params (behind ws))) (front small_of ws)
+row_line_from params ws =
+    option_and_then (λ (b : ℕ). option_map (λ (row : Inequality). line.Row (record { block = b; row = row }))
+    (row_from params (behind ws))) (front small_of ws)
 
 abbrev pub atom_from : List ParamRange → List (List ℕ) → Option Line
-atom_from params ws = option_and_then (λ (c : ℤ). option_and_then (λ (d : ℤ). option_map (λ (cs : List Coef). line.Atom (record { coefs = cs; constant = c; divisor = d })) (all_on (coef_of params) [] (behind (behind ws)))) (front signed_word (behind ws))) (front signed_word ws)
+atom_from params ws =
+    option_and_then (λ (c : ℤ). option_and_then
+    (λ (d : ℤ). option_map (λ (cs : List Coef). line.Atom (record { coefs = cs; constant = c; divisor = d }))
+    (all_on (coef_of params) [] (behind (behind ws)))) (front signed_word (behind ws))) (front signed_word ws)
 
 abbrev pub loop_from : List (List ℕ) → Option Line
-loop_from ws = option_and_then (λ (i : ℕ). option_and_then (λ (h : ℕ). option_and_then (λ (d : ℕ). option_map (λ (a : ℕ). line.Loop i h d a) (front (number_below (2 ^ 64) 0) (behind (behind (behind (behind (behind (behind ws)))))))) (front small_of (behind (behind (behind (behind ws)))))) (front small_of (behind (behind ws)))) (front small_of ws)
+loop_from ws =
+    option_and_then (λ (i : ℕ). option_and_then
+    (λ (h : ℕ). option_and_then (λ (d : ℕ). option_map (λ (a : ℕ). line.Loop i h d a)
+    (front (number_below (2 ^ 64) 0) (behind (behind (behind (behind (behind (behind ws))))))))
+    (front small_of (behind (behind (behind (behind ws)))))) (front small_of (behind (behind ws)))) (front small_of ws)
 
 abbrev pub block_from : List (List ℕ) → Option Line
-block_from ws = option_and_then (λ (i : ℕ). option_and_then (λ (a : ℕ). option_and_then (λ (n : ℕ). option_map (λ (rs : List ℕ). line.Block i (record { address = a; points = n; returns = rs })) (all_on address_of [] (behind (behind (behind ws))))) (front small_of (behind (behind ws)))) (front address_of (behind ws))) (front small_of ws)
+block_from ws =
+    option_and_then (λ (i : ℕ). option_and_then
+    (λ (a : ℕ). option_and_then (λ (n : ℕ). option_map
+    (λ (rs : List ℕ). line.Block i (record { address = a; points = n; returns = rs }))
+    (all_on address_of [] (behind (behind (behind ws))))) (front small_of (behind (behind ws))))
+    (front address_of (behind ws))) (front small_of ws)
 
 abbrev pub param_from : List (List ℕ) → Option Line
-param_from ws = option_and_then (λ (name : List ℕ). option_and_then (λ (r : ℕ). option_and_then (λ (low : ℤ). option_map (λ (high : ℤ). line.Param (record { name = name; register = r; low = low; high = high })) (front narrow_of (behind (behind (behind ws))))) (front narrow_of (behind (behind ws)))) (front (λ (w : List ℕ). number_below 256 0 (byte_off w)) (behind ws))) (front (ascii_on []) ws)
+param_from ws =
+    option_and_then (λ (name : List ℕ). option_and_then
+    (λ (r : ℕ). option_and_then (λ (low : ℤ). option_map
+    (λ (high : ℤ). line.Param (record { name = name; register = r; low = low; high = high }))
+    (front narrow_of (behind (behind (behind ws))))) (front narrow_of (behind (behind ws))))
+    (front (λ (w : List ℕ). number_below 256 0 (byte_off w)) (behind ws))) (front (ascii_on []) ws)
 
 abbrev pub timing_of : List ℕ → Option Line
 timing_of ns =
-    if length ns == 17 then Some (line.Timing (record { sets = slice_index ns 0; ways = slice_index ns 1; line = slice_index ns 2; miss = slice_index ns 3; skipped = slice_index ns 4; register = slice_index ns 5; classes = slice_index ns 6 ∷ slice_index ns 7 ∷ slice_index ns 8 ∷ slice_index ns 9 ∷ slice_index ns 10 ∷ slice_index ns 11 ∷ slice_index ns 12 ∷ slice_index ns 13 ∷ slice_index ns 14 ∷ slice_index ns 15 ∷ slice_index ns 16 ∷ [] }))
+    if length ns == 17 then Some (line.Timing
+    (record {
+      sets = slice_index ns 0;
+      ways = slice_index ns 1;
+      line = slice_index ns 2;
+      miss = slice_index ns 3;
+      skipped = slice_index ns 4;
+      register = slice_index ns 5;
+      classes = slice_index ns 6 ∷ slice_index ns 7
+          ∷ slice_index ns 8 ∷ slice_index ns 9 ∷ slice_index ns 10 ∷ slice_index ns 11 ∷ slice_index ns 12
+          ∷ slice_index ns 13 ∷ slice_index ns 14 ∷ slice_index ns 15 ∷ slice_index ns 16 ∷ [];
+    }))
     else None
 
 abbrev pub timing_from : List (List ℕ) → Option Line
 timing_from ws = option_and_then timing_of (all_on small_of [] ws)
 
 abbrev pub function_from : List (List ℕ) → Option Line
-function_from ws = option_and_then (λ (e : ℕ). option_map (λ (s : ℕ). line.Function e s) (front small_of (behind (behind ws)))) (front address_of ws)
+function_from ws =
+    option_and_then (λ (e : ℕ). option_map (λ (s : ℕ). line.Function e s) (front small_of (behind (behind ws))))
+    (front address_of ws)
 
 abbrev pub version_from : List (List ℕ) → Option Line
 version_from ws = option_map line.Version (front (number_below 256 0) ws)

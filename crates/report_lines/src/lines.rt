@@ -1,3 +1,5 @@
+//! Reads a line: by its keyword, and then compared with what is written for it.
+
 ghost use Rattle.std.specs.Prelude.{◌≡◌, IfOk, codes};
 ghost use Rattle.std.specs.Option.{option_map};
 ghost use Rattle.report_elements.specs.Words.{before, byte_off, from, words};

@@ -1,3 +1,5 @@
+//! Reads the words of each kind of line.
+
 ghost use Rattle.std.specs.Prelude.{◌≡◌, ◌<◌, ◌^◌, ◌∷◌, [], IfOk, IfSome, None, Some, unsigned_abs, neg_ℤ, codes};
 ghost use Rattle.std.specs.Option.{option_map};
 ghost use Rattle.report_elements.specs.Names.{ascii_on};

@@ -1,3 +1,5 @@
+//! The report, and the kinds of line of its text.
+
 use fetch_timing::Timing;
 use linear_rows::Row;
 use report_elements::Formula;

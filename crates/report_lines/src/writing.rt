@@ -1,3 +1,5 @@
+//! Writes each kind of line.
+
 ghost use Rattle.std.specs.Prelude.{◌≡◌, ◌++◌, ◌∷◌, [], OnOk, string_bytes, codes, map};
 ghost use Rattle.std.specs.Fmt.{decimal, signed_decimal};
 ghost use Rattle.report_elements.specs.Elements.{address_text, coef_text, in_brackets, name_at, row_term_text, var_text};

@@ -51,7 +51,22 @@ holds [] = false
 holds (x ∷ xs) = true
 
 abbrev pub start : Form
-start = record { version = None; function = None; timing = None; params = []; blocks = []; loops = []; owed = 0; rows = []; facts = []; proofs = []; tree = None; formula = None; ended = false }
+start =
+    record {
+      version = None;
+      function = None;
+      timing = None;
+      params = [];
+      blocks = [];
+      loops = [];
+      owed = 0;
+      rows = [];
+      facts = [];
+      proofs = [];
+      tree = None;
+      formula = None;
+      ended = false;
+    }
 
 -- no line of this kind or a later one was read
 abbrev pub no_formula : Form → Bool
@@ -123,7 +138,9 @@ is_done (way.Skip u i) block index = false
 -- the multipliers
 abbrev pub pairs_from : ℕ → List Multiplier → Bool
 pairs_from least [] = true
-pairs_from least (m ∷ ms) = nat_le least m.row && nat_lt m.row (2 ^ 64) && nat_lt 0 m.factor && nat_lt m.factor (2 ^ 127) && pairs_from (m.row + 1) ms
+pairs_from least (m ∷ ms) =
+    nat_le least m.row && nat_lt m.row (2 ^ 64) && nat_lt 0 m.factor && nat_lt m.factor (2 ^ 127)
+    && pairs_from (m.row + 1) ms
 
 -- the order of the lines of proofs: low before high by point, then steps by fact and way, then turns by loop, atom and way
 abbrev pub way_key : Way → List ℕ
@@ -158,7 +175,9 @@ about_ok f w (about.Turn id atom) = atom_exists f id atom && way_ok f w
 about_ok f w (about.Closing place row) = false
 
 abbrev pub proof_ok : Form → Proof → Bool
-proof_ok f p = about_ok f p.way p.about && nat_lt 0 p.divisor && nat_lt p.divisor (2 ^ 127) && pairs_from 0 p.pairs && after_proof (last_of f.proofs) p
+proof_ok f p =
+    about_ok f p.way p.about && nat_lt 0 p.divisor && nat_lt p.divisor (2 ^ 127) && pairs_from 0 p.pairs
+    && after_proof (last_of f.proofs) p
 
 -- an ASCII letter, then at most 15 letters, digits or underscores
 abbrev pub is_letter : ℕ → Bool
@@ -179,14 +198,17 @@ names_itself params place None = false
 names_itself params place (Some found) = found == place
 
 abbrev pub param_exists : List ParamRange → ℕ → Bool
-param_exists params place = is_name (name_at params place) && names_itself params place (place_of 0 params (name_at params place))
+param_exists params place =
+    is_name (name_at params place) && names_itself params place (place_of 0 params (name_at params place))
 
 abbrev pub stack_of : Option Function → ℕ
 stack_of None = 0
 stack_of (Some g) = g.stack
 
 abbrev pub word_exists : ℕ → ℤ → Bool
-word_exists stack offset = int_lt offset (pos 0) && nat_le (unsigned_abs offset) stack && nat_lt (unsigned_abs offset) (2 ^ 31) && (unsigned_abs offset % 4 == 0)
+word_exists stack offset =
+    int_lt offset (pos 0) && nat_le (unsigned_abs offset) stack && nat_lt (unsigned_abs offset) (2 ^ 31)
+    && (unsigned_abs offset % 4 == 0)
 
 abbrev pub var_exists : Form → Var → Bool
 var_exists f (var.Register r) = nat_lt r 15
@@ -206,7 +228,8 @@ abbrev pub terms_cmp : List RowTerm → List RowTerm → Ordering
 terms_cmp [] [] = Equal
 terms_cmp [] (y ∷ ys) = Less
 terms_cmp (x ∷ xs) [] = Greater
-terms_cmp (x ∷ xs) (y ∷ ys) = ordering_then (ordering_then (var_cmp x.var y.var) (int_cmp x.factor y.factor)) (terms_cmp xs ys)
+terms_cmp (x ∷ xs) (y ∷ ys) =
+    ordering_then (ordering_then (var_cmp x.var y.var) (int_cmp x.factor y.factor)) (terms_cmp xs ys)
 
 abbrev pub row_cmp : Inequality → Inequality → Ordering
 row_cmp a b = ordering_then (terms_cmp a.terms b.terms) (int_cmp a.constant b.constant)
@@ -220,49 +243,64 @@ after_row (Some q) r = is_less (ordering_then (nat_cmp q.block r.block) (row_cmp
 
 abbrev pub after_fact : Option Fact → Fact → Bool
 after_fact None r = true
-after_fact (Some q) r = is_less (ordering_then (ordering_then (nat_cmp q.block r.block) (nat_cmp q.index r.index)) (row_cmp q.row r.row))
+after_fact (Some q) r =
+    is_less (ordering_then (ordering_then (nat_cmp q.block r.block) (nat_cmp q.index r.index)) (row_cmp q.row r.row))
 
 abbrev pub fact_ok : Form → ℕ → Fact → Bool
-fact_ok f i q = u32_ok i && (i == length f.facts) && point_exists f q.block q.index && is_row q.row && vars_exist f q.row.terms && after_fact (last_of f.facts) q
+fact_ok f i q =
+    u32_ok i && (i == length f.facts) && point_exists f q.block q.index && is_row q.row && vars_exist f q.row.terms
+    && after_fact (last_of f.facts) q
 
 abbrev pub row_ok : Form → ReportRow → Bool
-row_ok f r = u32_ok r.block && is_header f.loops r.block && is_row r.row && vars_exist f r.row.terms && after_row (last_of f.rows) r
+row_ok f r =
+    u32_ok r.block && is_header f.loops r.block && is_row r.row && vars_exist f r.row.terms
+    && after_row (last_of f.rows) r
 
 -- atoms
 abbrev pub coefs_from : List ParamRange → ℕ → List Coef → Bool
 coefs_from params least [] = true
-coefs_from params least (c ∷ cs) = nat_le least c.param && param_exists params c.param && is_within c.factor && nat_lt 0 (unsigned_abs c.factor) && coefs_from params (c.param + 1) cs
+coefs_from params least (c ∷ cs) =
+    nat_le least c.param && param_exists params c.param && is_within c.factor && nat_lt 0 (unsigned_abs c.factor)
+    && coefs_from params (c.param + 1) cs
 
 abbrev pub coefs_cmp : List Coef → List Coef → Ordering
 coefs_cmp [] [] = Equal
 coefs_cmp [] (y ∷ ys) = Less
 coefs_cmp (x ∷ xs) [] = Greater
-coefs_cmp (x ∷ xs) (y ∷ ys) = ordering_then (ordering_then (nat_cmp x.param y.param) (int_cmp x.factor y.factor)) (coefs_cmp xs ys)
+coefs_cmp (x ∷ xs) (y ∷ ys) =
+    ordering_then (ordering_then (nat_cmp x.param y.param) (int_cmp x.factor y.factor)) (coefs_cmp xs ys)
 
 abbrev pub after_atom : Option Atom → Atom → Bool
 after_atom None a = true
-after_atom (Some q) a = is_less (ordering_then (ordering_then (int_cmp q.divisor a.divisor) (int_cmp q.constant a.constant)) (coefs_cmp q.coefs a.coefs))
+after_atom (Some q) a =
+    is_less (ordering_then (ordering_then (int_cmp q.divisor a.divisor) (int_cmp q.constant a.constant))
+    (coefs_cmp q.coefs a.coefs))
 
 abbrev pub last_atom : Option ReportLoop → Option Atom
 last_atom None = None
 last_atom (Some l) = last_of l.bound.atoms
 
 abbrev pub atom_ok : Form → Atom → Bool
-atom_ok f a = nat_lt 0 f.owed && holds f.loops && is_within a.constant && is_within a.divisor && int_lt (pos 0) a.divisor && coefs_from f.params 0 a.coefs && after_atom (last_atom (last_of f.loops)) a
+atom_ok f a =
+    nat_lt 0 f.owed && holds f.loops && is_within a.constant && is_within a.divisor && int_lt (pos 0) a.divisor
+    && coefs_from f.params 0 a.coefs && after_atom (last_atom (last_of f.loops)) a
 
 abbrev pub after_header : Option ReportLoop → ℕ → Bool
 after_header None header = true
 after_header (Some l) header = nat_lt l.header header
 
 abbrev pub loop_ok : Form → ℕ → ℕ → ℕ → ℕ → Bool
-loop_ok f i header depth atoms = u32_ok i && (i == length f.loops + 1) && u32_ok header && nat_lt header (length f.blocks) && nat_lt 0 depth && nat_lt depth 17 && nat_lt atoms (2 ^ 64) && after_header (last_of f.loops) header
+loop_ok f i header depth atoms =
+    u32_ok i && (i == length f.loops + 1) && u32_ok header && nat_lt header (length f.blocks) && nat_lt 0 depth
+    && nat_lt depth 17 && nat_lt atoms (2 ^ 64) && after_header (last_of f.loops) header
 
 abbrev pub all_u32 : List ℕ → Bool
 all_u32 [] = true
 all_u32 (n ∷ ns) = u32_ok n && all_u32 ns
 
 abbrev pub block_ok : Form → ℕ → ReportBlock → Bool
-block_ok f i b = u32_ok i && (i == length f.blocks) && u32_ok b.address && nat_lt 0 b.points && u32_ok b.points && all_u32 b.returns
+block_ok f i b =
+    u32_ok i && (i == length f.blocks) && u32_ok b.address && nat_lt 0 b.points && u32_ok b.points && all_u32 b.returns
 
 abbrev pub is_taken : ParamRange → List ParamRange → Bool
 is_taken p [] = false
@@ -272,11 +310,15 @@ abbrev pub is_narrow : ℤ → Bool
 is_narrow z = int_le (neg_ℤ (pos (2 ^ 31))) z && int_lt z (pos (2 ^ 31))
 
 abbrev pub param_ok : List ParamRange → ParamRange → Bool
-param_ok ps p = is_name p.name && nat_lt p.register 13 && (if is_taken p ps then false else true) && int_le p.low p.high && is_narrow p.low && is_narrow p.high
+param_ok ps p =
+    is_name p.name && nat_lt p.register 13 && (if is_taken p ps then false else true) && int_le p.low p.high
+    && is_narrow p.low && is_narrow p.high
 
 -- the cost table
 abbrev pub is_set_count : ℕ → Bool
-is_set_count n = n == 1 || n == 2 || n == 4 || n == 8 || n == 16 || n == 32 || n == 64 || n == 128 || n == 256 || n == 512 || n == 1024
+is_set_count n =
+    n == 1 || n == 2 || n == 4 || n == 8 || n == 16 || n == 32 || n == 64 || n == 128 || n == 256 || n == 512
+    || n == 1024
 
 abbrev pub is_line_size : ℕ → Bool
 is_line_size n = n == 4 || n == 8 || n == 16 || n == 32 || n == 64
@@ -300,12 +342,14 @@ tree_ok f t = tree_fits (length f.blocks) (length f.loops) t 1000 && nat_le (siz
 
 -- a formula over loops that exist
 abbrev pub formula_ok : Form → Term → Bool
-formula_ok f t = term_fits (length f.loops) list_fits t 2000 && nat_le (nodes_of t) 1000000 && nat_lt (counts_of t) (2 ^ 63)
+formula_ok f t =
+    term_fits (length f.loops) list_fits t 2000 && nat_le (nodes_of t) 1000000 && nat_lt (counts_of t) (2 ^ 63)
 
 -- whether a line may follow; a text of version 2 is not read yet
 abbrev pub may : Form → Line → Bool
 may f (line.Version v) = (v == 1) && (if has f.version then false else no_function f)
-may f (line.Function entry stack) = function_ok entry stack && has f.version && (if has f.function then false else no_timing f)
+may f (line.Function entry stack) =
+    function_ok entry stack && has f.version && (if has f.function then false else no_timing f)
 may f (line.Timing t) = timing_ok t && has f.function && (if has f.timing then false else no_params f)
 may f (line.Param p) = param_ok f.params p && has f.timing && no_blocks f
 may f (line.Block i b) = block_ok f i b && has f.timing && no_loops f
@@ -315,7 +359,8 @@ may f (line.Row r) = row_ok f r && is_version 1 f.version && is_level f && no_fa
 may f (line.Fact i q) = fact_ok f i q && is_version 2 f.version && is_level f && no_proofs f
 may f (line.Proof p) = proof_ok f p && is_version 2 f.version && is_level f && no_tree f
 may f (line.Tree t) = tree_ok f t && is_level f && (if has f.tree then false else no_formula f)
-may f (line.Formula t) = formula_ok f t && has f.tree && (if has f.formula then false else if f.ended then false else true)
+may f (line.Formula t) =
+    formula_ok f t && has f.tree && (if has f.formula then false else if f.ended then false else true)
 may f line.End = has f.formula && (if f.ended then false else true)
 
 -- what a line adds

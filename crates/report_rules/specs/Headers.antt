@@ -15,5 +15,6 @@ new_loop header depth = record { header = header; depth = depth; bound = record 
 -- one more atom for the last loop
 abbrev pub with_atom : List ReportLoop → Atom → List ReportLoop
 with_atom [] a = []
-with_atom (l ∷ []) a = record { header = l.header; depth = l.depth; bound = record { atoms = l.bound.atoms ++ a ∷ [] } } ∷ []
+with_atom (l ∷ []) a =
+    record { header = l.header; depth = l.depth; bound = record { atoms = l.bound.atoms ++ a ∷ [] } } ∷ []
 with_atom (l ∷ m ∷ loops) a = l ∷ with_atom (m ∷ loops) a

@@ -1,3 +1,4 @@
+-- What the answer for a text says of it.
 use Rattle.std.proofs.Common.{◌≡◌, ℕ, true, List, Result, Ok, Err, sym, ap, ◌∙◌}
 use Rattle.report_lines.specs.declared.report.Report.{Report}
 use Rattle.whole_reports.specs.declared.verdicts.Verdict.{Verdict}

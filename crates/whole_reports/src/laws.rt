@@ -1,3 +1,5 @@
+//! Laws of reading.
+
 ghost use Rattle.std.specs.Prelude.{◌≡◌, Err, List, Ok, true, ℕ};
 ghost use Rattle.report_lines.specs.declared.report.Report.{Report as ReportValue};
 ghost use Rattle.whole_reports.specs.Walk.{IsFirstBad};

@@ -1,3 +1,5 @@
+//! Reads a text line by line.
+
 ghost use Rattle.std.specs.Prelude.{◌≡◌, ◌≢◌, [], Err, IfOk, List, Ok, true, ℕ};
 ghost use Rattle.whole_reports.specs.declared.verdicts.ReadRefusal.TheVariants as refusal;
 ghost use Rattle.report_lines.specs.declared.report.Report.{Report as ReportValue};
