@@ -32,7 +32,8 @@ abbrev pub loops_of : LoopNest → List ReportLoop
 loops_of n = map loop_in n.loops
 
 -- The report has these parts; its loops have no bounds, and so it has no facts.
-pub record HasParts (g : BlockGraph) (n : LoopNest) (t : Timing) (stack : ℕ) (params : List ParamRange) (r : Report) : Type 0 where
+pub record HasParts (g : BlockGraph) (n : LoopNest) (t : Timing) (stack : ℕ) (params : List ParamRange)
+    (r : Report) : Type 0 where
   pub version : r.version ≡ 1
   pub entry : r.entry ≡ g.entry
   pub stack_is : r.stack ≡ stack
