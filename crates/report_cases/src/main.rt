@@ -13,7 +13,7 @@
 //! text TEXT                      TEXT alone, without a line feed
 //! ```
 //!
-//! In TEXT `\xHH` is the byte with these hexadecimal digits, and `\<COUNT PART>` is PART so many times. The reason of a
+//! In TEXT `\xHH` is the byte with these hexadecimal digits, and `\<COUNT PART>` is PART that many times. The reason of a
 //! line stands after ` # `.
 #![tactic(auto)]
 

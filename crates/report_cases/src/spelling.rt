@@ -10,7 +10,7 @@ pub fn number(word: &str) -> usize {
     }
 }
 
-/// The bytes of a text, in which `\xHH` is one byte and `\<COUNT PART>` is a part so many times.
+/// The bytes of a text, in which `\xHH` is one byte and `\<COUNT PART>` is a part that many times.
 pub fn spelled(alloc: Global, text: &str) -> Result<Vec<u8>, AllocError> {
     let mut out = Vec::new(alloc);
     let mut parts = text.split('\\');

@@ -24,7 +24,7 @@ use Rattle.report_elements.specs.declared.formula_brackets.Head.TheVariants.{Top
 use Rattle.report_elements.specs.declared.formula_brackets.Frame.{Frame}
 use Rattle.report_elements.specs.declared.formula_brackets.Reading.{Reading}
 
--- the rest of a text behind a word
+-- the rest of a text after a word
 abbrev pub EndsWord : List ℕ → Type 0
 EndsWord [] = Unit {0}
 EndsWord (b ∷ bs) = (b == 32 || b == 41) ≡ true
@@ -186,12 +186,12 @@ module _ (loops : ℕ) (costs_of : List ℕ → Option CostList) (costs_fit : Co
       let small_id : id < 2 ^ 32 = loop_small loops id fits2.0 in
       let s : Reading = inner r OpenPower [] in
       let s2 : Reading = inner r (Power id) [] in
-      let behind = term_text body ++ (41 ∷ rest) in
-      let grouped : (codes "(power " ++ decimal id ++ codes " " ++ term_text body ++ codes ")") ++ rest ≡ codes "(power " ++ (decimal id ++ (32 ∷ behind)) = simp (append_assoc) in
+      let later = term_text body ++ (41 ∷ rest) in
+      let grouped : (codes "(power " ++ decimal id ++ codes " " ++ term_text body ++ codes ")") ++ rest ≡ codes "(power " ++ (decimal id ++ (32 ∷ later)) = simp (append_assoc) in
       ap (λ (bs : List ℕ). go limit [] r bs) grouped
-      ∙ ap (λ (o : Option Reading). after limit (decimal id ++ (32 ∷ behind)) o) (at_open limit (codes "(power") r r.top.head may ∙ opened_is limit OpenPower r (omega arith))
-      ∙ plain_on limit [] s (decimal id) (32 ∷ behind) (digits_plain (decimal id) (digits_decimal id (omega (arith, small_id))))
-      ∙ ap (λ (n : Option ℕ). after limit behind (option_map (λ (n : ℕ). with_head costs_of s (Power n)) n)) (number_decimal (2 ^ 32) id small_id (omega arith))
+      ∙ ap (λ (o : Option Reading). after limit (decimal id ++ (32 ∷ later)) o) (at_open limit (codes "(power") r r.top.head may ∙ opened_is limit OpenPower r (omega arith))
+      ∙ plain_on limit [] s (decimal id) (32 ∷ later) (digits_plain (decimal id) (digits_decimal id (omega (arith, small_id))))
+      ∙ ap (λ (n : Option ℕ). after limit later (option_map (λ (n : ℕ). with_head costs_of s (Power n)) n)) (number_decimal (2 ^ 32) id small_id (omega arith))
       ∙ first limit room s2 (41 ∷ rest) refl refl fits2.1 (omega arith)
 
   reads_power : (id : ℕ) (body : Term) → Reads body → Reads (f.Power id body)
@@ -206,12 +206,12 @@ module _ (loops : ℕ) (costs_of : List ℕ → Option CostList) (costs_fit : Co
       let small_id : id < 2 ^ 32 = loop_small loops id fits2.0 in
       let s : Reading = inner r OpenScaled [] in
       let s2 : Reading = inner r (Scaled id) [] in
-      let behind = term_text body ++ (41 ∷ rest) in
-      let grouped : (codes "(scaled " ++ decimal id ++ codes " " ++ term_text body ++ codes ")") ++ rest ≡ codes "(scaled " ++ (decimal id ++ (32 ∷ behind)) = simp (append_assoc) in
+      let later = term_text body ++ (41 ∷ rest) in
+      let grouped : (codes "(scaled " ++ decimal id ++ codes " " ++ term_text body ++ codes ")") ++ rest ≡ codes "(scaled " ++ (decimal id ++ (32 ∷ later)) = simp (append_assoc) in
       ap (λ (bs : List ℕ). go limit [] r bs) grouped
-      ∙ ap (λ (o : Option Reading). after limit (decimal id ++ (32 ∷ behind)) o) (at_open limit (codes "(scaled") r r.top.head may ∙ opened_is limit OpenScaled r (omega arith))
-      ∙ plain_on limit [] s (decimal id) (32 ∷ behind) (digits_plain (decimal id) (digits_decimal id (omega (arith, small_id))))
-      ∙ ap (λ (n : Option ℕ). after limit behind (option_map (λ (n : ℕ). with_head costs_of s (Scaled n)) n)) (number_decimal (2 ^ 32) id small_id (omega arith))
+      ∙ ap (λ (o : Option Reading). after limit (decimal id ++ (32 ∷ later)) o) (at_open limit (codes "(scaled") r r.top.head may ∙ opened_is limit OpenScaled r (omega arith))
+      ∙ plain_on limit [] s (decimal id) (32 ∷ later) (digits_plain (decimal id) (digits_decimal id (omega (arith, small_id))))
+      ∙ ap (λ (n : Option ℕ). after limit later (option_map (λ (n : ℕ). with_head costs_of s (Scaled n)) n)) (number_decimal (2 ^ 32) id small_id (omega arith))
       ∙ first limit room s2 (41 ∷ rest) refl refl fits2.1 (omega arith)
 
   reads_scaled : (id : ℕ) (body : Term) → Reads body → Reads (f.Scaled id body)

@@ -72,16 +72,16 @@ one_place runs r n rest is small one =
 
 places : (runs : List Run) (r : Run) (n : ℕ) (rest : List ℕ) → r.value ≡ Fin n → n < 2 ^ 127 → r.count < 2 ^ 63 → (r.count == 1) ≡ false → Pending runs r rest
 places runs r n rest is small few many =
-    let behind = decimal r.count ++ rest in
-    let text : run_text r ++ rest ≡ decimal n ++ (42 ∷ behind) =
+    let later = decimal r.count ++ rest in
+    let text : run_text r ++ rest ≡ decimal n ++ (42 ∷ later) =
     (λ i. (cost_text (is i) ++ (if many i then [] else codes "*" ++ decimal r.count)) ++ rest) ∙ append_assoc (decimal n) (codes "*" ++ decimal r.count) rest in (
       Some n,
       decimal r.count,
       ap (option_map (λ c. record { value = Fin n; count = c })) (number_decimal (2 ^ 63) r.count few (omega arith)) ∙ (λ i. Some (record { value = sym is i; count = r.count })),
       some_digits r.count (omega arith),
       ap (runs_on runs None []) text
-          ∙ digits_on runs None [] (decimal n) (42 ∷ behind) (digits_decimal n small)
-          ∙ ap (option_and_then (λ (v : ℕ). runs_on runs (Some v) [] behind)) (number_decimal (2 ^ 127) n small (omega arith))
+          ∙ digits_on runs None [] (decimal n) (42 ∷ later) (digits_decimal n small)
+          ∙ ap (option_and_then (λ (v : ℕ). runs_on runs (Some v) [] later)) (number_decimal (2 ^ 127) n small (omega arith))
           ∙ digits_on runs (Some n) [] (decimal r.count) rest (digits_decimal r.count (omega arith)),
     )
 

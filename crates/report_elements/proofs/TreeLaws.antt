@@ -179,10 +179,10 @@ module _ (blocks loops : ℕ) where
       let s : Reading = inner r OpenLeaf [] [] in
       let s2 : Reading = inner r (Block block) [] [] in
       let tail = spaced use_text us ++ (41 ∷ rest) in
-      let behind = decimal block ++ (32 ∷ (decimal base ++ tail)) in
-      let grouped : leaf_text block base us ++ rest ≡ codes "(leaf " ++ behind = simp (append_assoc) in
+      let later = decimal block ++ (32 ∷ (decimal base ++ tail)) in
+      let grouped : leaf_text block base us ++ rest ≡ codes "(leaf " ++ later = simp (append_assoc) in
       ap (λ (bs : List ℕ). run limit [] r bs) grouped
-      ∙ ap (λ (o : Option Reading). after limit behind o) (at_open limit (codes "(leaf") r r.top.head may ∙ opened_is limit OpenLeaf r (omega arith))
+      ∙ ap (λ (o : Option Reading). after limit later o) (at_open limit (codes "(leaf") r r.top.head may ∙ opened_is limit OpenLeaf r (omega arith))
       ∙ digits_on limit [] s (decimal block) (32 ∷ (decimal base ++ tail)) (digits_decimal block (omega (arith, small_block)))
       ∙ ap (λ (n : Option ℕ). after limit (decimal base ++ tail) (option_map (λ (n : ℕ). with_head s (Block n)) n)) (number_decimal (2 ^ 32) block small_block (omega arith))
       ∙ digits_on limit [] s2 (decimal base) tail (digits_decimal base small_base)
@@ -202,14 +202,14 @@ module _ (blocks loops : ℕ) where
       let s : Reading = inner r OpenLoop [] [] in
       let s2 : Reading = inner r (Loop id) [] [] in
       let s3 : Reading = inner r (Loop id) [] (body ∷ []) in
-      let behind = 32 ∷ (tree_text exit ++ (41 ∷ rest)) in
-      let all = decimal id ++ (32 ∷ (tree_text body ++ behind)) in
+      let later = 32 ∷ (tree_text exit ++ (41 ∷ rest)) in
+      let all = decimal id ++ (32 ∷ (tree_text body ++ later)) in
       let grouped : (codes "(loop " ++ decimal id ++ codes " " ++ tree_text body ++ codes " " ++ tree_text exit ++ codes ")") ++ rest ≡ codes "(loop " ++ all = simp (append_assoc) in
       ap (λ (bs : List ℕ). run limit [] r bs) grouped
       ∙ ap (λ (o : Option Reading). after limit all o) (at_open limit (codes "(loop") r r.top.head may ∙ opened_is limit OpenLoop r (omega arith))
-      ∙ digits_on limit [] s (decimal id) (32 ∷ (tree_text body ++ behind)) (digits_decimal id (omega (arith, small_id)))
-      ∙ ap (λ (n : Option ℕ). after limit (tree_text body ++ behind) (option_map (λ (n : ℕ). with_head s (Loop n)) n)) (number_decimal (2 ^ 32) id small_id (omega arith))
-      ∙ first limit room s2 behind refl fits3.1 (omega arith)
+      ∙ digits_on limit [] s (decimal id) (32 ∷ (tree_text body ++ later)) (digits_decimal id (omega (arith, small_id)))
+      ∙ ap (λ (n : Option ℕ). after limit (tree_text body ++ later) (option_map (λ (n : ℕ). with_head s (Loop n)) n)) (number_decimal (2 ^ 32) id small_id (omega arith))
+      ∙ first limit room s2 later refl fits3.1 (omega arith)
       ∙ second limit room s3 (41 ∷ rest) refl fits2.1 (omega arith)
 
   reads_loop : (id : ℕ) (body exit : Tree) → Reads body → Reads exit → Reads (t.Loop id body exit)

@@ -87,7 +87,7 @@ module _ (costs_of : List ℕ → Option CostList) where
   abbrev pub parsed : ℕ → List ℕ → Option Term
   parsed limit text = option_and_then (λ (r : Reading). single r.top.members) (run limit [] start text)
 
--- what may stand in a report of so many loops: they exist, the constants are allowed, and no more terms stand in one
+-- what may stand in a report of that many loops: they exist, the constants are allowed, and no more terms stand in one
 -- another than there is room for
 module _ (loops : ℕ) (costs_fit : CostList → Bool) where
   abbrev pub fits_level : Term-F (ℕ → Bool) → ℕ → Bool

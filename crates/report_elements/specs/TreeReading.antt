@@ -124,7 +124,7 @@ is_block blocks block = nat_lt block (2 ^ 32) && nat_lt block blocks
 abbrev pub is_loop : ℕ → ℕ → Bool
 is_loop loops id = nat_lt id (2 ^ 32) && nat_lt 0 id && nat_le id loops
 
--- what may stand in a report of so many blocks and loops: they exist, the numbers are in range, and no more brackets stand
+-- what may stand in a report of that many blocks and loops: they exist, the numbers are in range, and no more brackets stand
 -- in one another than there is room for
 module _ (blocks loops : ℕ) where
   abbrev pub fits_level : Tree-F (ℕ → Bool) → ℕ → Bool

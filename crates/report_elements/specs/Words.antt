@@ -27,31 +27,31 @@ abbrev pub words : List ℕ → List (List ℕ)
 words [] = []
 words (b ∷ bs) = words_on [] bs
 
--- the first word read, and the words behind it
+-- the first word read, and the words after it
 abbrev pub front : {A : Type 0} → (List ℕ → Option A) → List (List ℕ) → Option A
 front read [] = None
 front read (w ∷ ws) = read w
 
-abbrev pub behind : List (List ℕ) → List (List ℕ)
-behind [] = []
-behind (w ∷ ws) = ws
+abbrev pub later : List (List ℕ) → List (List ℕ)
+later [] = []
+later (w ∷ ws) = ws
 
--- each word read, behind what was read before
+-- each word read, after what was read before
 abbrev pub all_on : {A : Type 0} → (List ℕ → Option A) → List A → List (List ℕ) → Option (List A)
 all_on read done [] = Some done
 all_on read done (w ∷ ws) = option_and_then (λ a. all_on read (done ++ a ∷ []) ws) (read w)
 
--- an address behind `0x`
+-- an address after `0x`
 abbrev pub address_of : List ℕ → Option ℕ
 address_of word = hex_on 0 (byte_off (byte_off word))
 
 -- numbers of 32 bits
 abbrev pub two : List (List ℕ) → Option (ℕ × ℕ)
 two ws =
-    option_and_then (λ (a : ℕ). option_map (λ (b : ℕ). (a, b)) (front (number_below (2 ^ 32) 0) (behind ws)))
+    option_and_then (λ (a : ℕ). option_map (λ (b : ℕ). (a, b)) (front (number_below (2 ^ 32) 0) (later ws)))
     (front (number_below (2 ^ 32) 0) ws)
 
 abbrev pub three : List (List ℕ) → Option (ℕ × ℕ × ℕ)
 three ws =
-    option_and_then (λ (a : ℕ). option_map (λ (p : ℕ × ℕ). (a, p.0, p.1)) (two (behind ws)))
+    option_and_then (λ (a : ℕ). option_map (λ (p : ℕ × ℕ). (a, p.0, p.1)) (two (later ws)))
     (front (number_below (2 ^ 32) 0) ws)

@@ -110,7 +110,7 @@ fn listed_in(alloc: Global, text: &[u8]) -> Result<Option<Listing>, AllocError>
     let mut value: Option<u128> = None;
     let mut digits: Vec<u8> = Vec::new(alloc);
     let mut left = text;
-    while let Some((byte, behind)) = left.split_first() {
+    while let Some((byte, later)) = left.split_first() {
         let byte = *byte;
         if byte == 42 {
             match cost_in(digits.as_slice()) {
@@ -126,11 +126,11 @@ fn listed_in(alloc: Global, text: &[u8]) -> Result<Option<Listing>, AllocError>
             value = None;
             digits.clear();
         } else if byte == 124 {
-            return last_in(alloc, runs, value, digits.as_slice(), behind);
+            return last_in(alloc, runs, value, digits.as_slice(), later);
         } else {
             digits.push(byte)?;
         }
-        left = behind;
+        left = later;
     }
     Ok(None)
 }
@@ -198,11 +198,11 @@ pub(crate) fn descending(runs: &[Run], tail: Cost) -> bool
     ensures { result ≡ descends runs.now tail }
 {
     let mut left = runs;
-    while let Some((run, behind)) = left.split_first() {
-        if !step_ok(*run, next_of(behind, tail)) {
+    while let Some((run, later)) = left.split_first() {
+        if !step_ok(*run, next_of(later, tail)) {
             return false;
         }
-        left = behind;
+        left = later;
     }
     is_ranged(tail)
 }

@@ -60,7 +60,7 @@ fn named(id: u32, loops: usize, body: bool) -> bool
     is_loop(id, loops) && body
 }
 
-/// Whether a formula may stand in a report of so many loops: they exist, its constants are lists of finite costs, and
+/// Whether a formula may stand in a report of that many loops: they exist, its constants are lists of finite costs, and
 /// at most `room` of its terms stand in one another.
 #[cycle(fitting)]
 #[tactic(auto, using(crate::proofs::FormulaLaws::fits_const, crate::proofs::FormulaLaws::fits_sum, crate::proofs::FormulaLaws::fits_alt, crate::proofs::FormulaLaws::fits_power, crate::proofs::FormulaLaws::fits_once, crate::proofs::FormulaLaws::fits_scaled))]

@@ -5,7 +5,7 @@ ghost use Rattle.report_elements.specs.TreeReading.{all_fit, fits, is_block, is_
 
 use wsym_terms::{Tree, Use};
 
-/// Whether a tree may stand in a report of so many blocks and loops: they exist, its numbers are in range, and at
+/// Whether a tree may stand in a report of that many blocks and loops: they exist, its numbers are in range, and at
 /// most `room` of its brackets stand in one another.
 #[cycle(fitting)]
 #[tactic(auto, using(crate::proofs::TreeLaws::fits_leaf, crate::proofs::TreeLaws::fits_seq, crate::proofs::TreeLaws::fits_alt, crate::proofs::TreeLaws::fits_loop))]

@@ -1,7 +1,7 @@
 //! The words of a line, read one after another.
 
 ghost use Rattle.std.specs.Prelude.{◌≡◌, ◌<◌, ◌^◌, unsigned_abs, [], ◌∷◌, length, MatchOption, IfSome};
-ghost use Rattle.report_elements.specs.Words.{address_of, before, behind, byte_off, from, front, three, two, words};
+ghost use Rattle.report_elements.specs.Words.{address_of, before, later, byte_off, from, front, three, two, words};
 ghost use Rattle.report_elements.specs.Numbers.{number_below};
 ghost use Rattle.report_elements.specs.Signed.{signed_of};
 
@@ -101,7 +101,7 @@ impl<'a> Fields<'a> {
 
     /// Goes past a word.
     pub fn skip(&mut self)
-        ensures { self.new ≡ behind self.old }
+        ensures { self.new ≡ later self.old }
     {
         let _word = self.next();
     }
@@ -110,7 +110,7 @@ impl<'a> Fields<'a> {
     pub fn number(&mut self, limit: u128) -> Option<u128>
         requires { 0 < limit }
         ensures value { result ≡ front (number_below limit 0) self.old }
-        ensures rest { self.new ≡ behind self.old }
+        ensures rest { self.new ≡ later self.old }
         ensures within { IfSome result (λ n. n < limit) }
     {
         match self.next() {
@@ -121,7 +121,7 @@ impl<'a> Fields<'a> {
     /// The number with its sign that the next word writes.
     pub fn signed(&mut self) -> Option<i128>
         ensures value { result ≡ front (signed_of (2 ^ 126)) self.old }
-        ensures rest { self.new ≡ behind self.old }
+        ensures rest { self.new ≡ later self.old }
         ensures within { IfSome result (λ z. unsigned_abs z < 2 ^ 126) }
     {
         match self.next() {
@@ -133,7 +133,7 @@ impl<'a> Fields<'a> {
     /// The address that the next word writes.
     pub fn address(&mut self) -> Option<u32>
         ensures value { result ≡ front address_of self.old }
-        ensures rest { self.new ≡ behind self.old }
+        ensures rest { self.new ≡ later self.old }
     {
         match self.next() {
             Some(word) => address(word),
@@ -144,7 +144,7 @@ impl<'a> Fields<'a> {
     /// A number of 32 bits.
     pub fn small(&mut self) -> Option<u32>
         ensures value { result ≡ front (number_below (2 ^ 32) 0) self.old }
-        ensures rest { self.new ≡ behind self.old }
+        ensures rest { self.new ≡ later self.old }
     {
         match self.number(1 << 32) {
             Some(number) => Some(number as u32),
@@ -155,7 +155,7 @@ impl<'a> Fields<'a> {
     /// Two numbers of 32 bits.
     pub fn two(&mut self) -> Option<(u32, u32)>
         ensures value { result ≡ two self.old }
-        ensures rest { self.new ≡ behind (behind self.old) }
+        ensures rest { self.new ≡ later (later self.old) }
     {
         let first = self.small();
         let second = self.small();
@@ -171,7 +171,7 @@ impl<'a> Fields<'a> {
     /// Three numbers of 32 bits.
     pub fn three(&mut self) -> Option<(u32, u32, u32)>
         ensures value { result ≡ three self.old }
-        ensures rest { self.new ≡ behind (behind (behind self.old)) }
+        ensures rest { self.new ≡ later (later (later self.old)) }
     {
         let first = self.small();
         let others = self.two();

@@ -64,7 +64,7 @@ about_text (about.Closing place row) w =
 abbrev pub timing_numbers : Timing → List ℕ
 timing_numbers t = t.sets ∷ t.ways ∷ t.line ∷ t.miss ∷ t.skipped ∷ t.register ∷ t.classes
 
--- the words of a line behind its keyword, where parameters give the names; a tree and a formula have no words
+-- the words of a line after its keyword, where parameters give the names; a tree and a formula have no words
 abbrev pub line_words : List ParamRange → Line → List (List ℕ)
 line_words params (line.Version v) = decimal v ∷ []
 line_words params (line.Function entry stack) = address_text entry ∷ codes "stack" ∷ decimal stack ∷ []

@@ -17,7 +17,7 @@ use Rattle.report_elements.specs.Names.{ascii_on}
 use Rattle.report_elements.specs.Signed.{minus, signed_of}
 use Rattle.report_elements.specs.FormulaReading.{parsed}
 use Rattle.report_elements.specs.Constants.{list_of}
-use Rattle.report_elements.specs.Words.{address_of, all_on, before, behind, byte_off, from, front, three, two, words}
+use Rattle.report_elements.specs.Words.{address_of, all_on, before, later, byte_off, from, front, three, two, words}
 use Rattle.report_lines.specs.declared.report.Way.{Way}
 use Rattle.report_lines.specs.declared.report.Way.TheVariants as way
 use Rattle.report_lines.specs.declared.report.About.{About}
@@ -101,7 +101,7 @@ row_with constant terms = if collected terms then row_of (record { terms = terms
 abbrev pub row_from : List ParamRange → List (List ℕ) → Option Inequality
 row_from params ws =
     option_and_then (λ (c : ℤ). option_and_then (λ (ts : List RowTerm). row_with c ts)
-    (all_on (term_of params) [] (behind ws))) (front signed_word ws)
+    (all_on (term_of params) [] (later ws))) (front signed_word ws)
 
 -- start, done U I, skip U I
 abbrev pub moved : Bool → Option (ℕ × ℕ) → Option Way
@@ -114,71 +114,71 @@ way_from (w ∷ ws) = if bytes_eq w (codes "start") then Some way.Start else mov
 
 abbrev pub past_way : List (List ℕ) → List (List ℕ)
 past_way [] = []
-past_way (w ∷ ws) = if bytes_eq w (codes "start") then ws else behind (behind ws)
+past_way (w ∷ ws) = if bytes_eq w (codes "start") then ws else later (later ws)
 
 -- D PAIR*
 abbrev pub ending_from : About → Way → List (List ℕ) → Option Line
 ending_from a w ws =
     option_and_then (λ (d : ℕ). option_map
     (λ (ms : List Multiplier). line.Proof (record { about = a; way = w; divisor = d; pairs = ms }))
-    (all_on pair_of [] (behind ws))) (front (number_below (2 ^ 127) 0) ws)
+    (all_on pair_of [] (later ws))) (front (number_below (2 ^ 127) 0) ws)
 
 abbrev pub waying_from : About → List (List ℕ) → Option Line
 waying_from a ws = option_and_then (λ (w : Way). ending_from a w (past_way ws)) (way_from ws)
 
 abbrev pub step_from : List (List ℕ) → Option Line
-step_from ws = option_and_then (λ (n : ℕ). waying_from (about.Fact n) (behind ws)) (front small_of ws)
+step_from ws = option_and_then (λ (n : ℕ). waying_from (about.Fact n) (later ws)) (front small_of ws)
 
 abbrev pub turn_from : List (List ℕ) → Option Line
-turn_from ws = option_and_then (λ (p : ℕ × ℕ). waying_from (about.Turn p.0 p.1) (behind (behind ws))) (two ws)
+turn_from ws = option_and_then (λ (p : ℕ × ℕ). waying_from (about.Turn p.0 p.1) (later (later ws))) (two ws)
 
 abbrev pub low_from : List (List ℕ) → Option Line
 low_from ws =
-    option_and_then (λ (p : ℕ × ℕ). ending_from (about.Low p.0 p.1) (way.Done p.0 p.1) (behind (behind ws))) (two ws)
+    option_and_then (λ (p : ℕ × ℕ). ending_from (about.Low p.0 p.1) (way.Done p.0 p.1) (later (later ws))) (two ws)
 
 abbrev pub high_from : List (List ℕ) → Option Line
 high_from ws =
-    option_and_then (λ (p : ℕ × ℕ). ending_from (about.High p.0 p.1) (way.Done p.0 p.1) (behind (behind ws))) (two ws)
+    option_and_then (λ (p : ℕ × ℕ). ending_from (about.High p.0 p.1) (way.Done p.0 p.1) (later (later ws))) (two ws)
 
 abbrev pub fact_from : List ParamRange → List (List ℕ) → Option Line
 fact_from params ws =
     option_and_then (λ (h : ℕ × ℕ × ℕ). option_map
     (λ (row : Inequality). line.Fact h.0 (record { block = h.1; index = h.2; row = row }))
-    (row_from params (behind (behind (behind ws))))) (three ws)
+    (row_from params (later (later (later ws))))) (three ws)
 
 abbrev pub row_line_from : List ParamRange → List (List ℕ) → Option Line
 row_line_from params ws =
     option_and_then (λ (b : ℕ). option_map (λ (row : Inequality). line.Row (record { block = b; row = row }))
-    (row_from params (behind ws))) (front small_of ws)
+    (row_from params (later ws))) (front small_of ws)
 
 abbrev pub atom_from : List ParamRange → List (List ℕ) → Option Line
 atom_from params ws =
     option_and_then (λ (c : ℤ). option_and_then
     (λ (d : ℤ). option_map (λ (cs : List Coef). line.Atom (record { coefs = cs; constant = c; divisor = d }))
-    (all_on (coef_of params) [] (behind (behind ws)))) (front signed_word (behind ws))) (front signed_word ws)
+    (all_on (coef_of params) [] (later (later ws)))) (front signed_word (later ws))) (front signed_word ws)
 
 abbrev pub loop_from : List (List ℕ) → Option Line
 loop_from ws =
     option_and_then (λ (i : ℕ). option_and_then
     (λ (h : ℕ). option_and_then (λ (d : ℕ). option_map (λ (a : ℕ). line.Loop i h d a)
-    (front (number_below (2 ^ 64) 0) (behind (behind (behind (behind (behind (behind ws))))))))
-    (front small_of (behind (behind (behind (behind ws)))))) (front small_of (behind (behind ws)))) (front small_of ws)
+    (front (number_below (2 ^ 64) 0) (later (later (later (later (later (later ws))))))))
+    (front small_of (later (later (later (later ws)))))) (front small_of (later (later ws)))) (front small_of ws)
 
 abbrev pub block_from : List (List ℕ) → Option Line
 block_from ws =
     option_and_then (λ (i : ℕ). option_and_then
     (λ (a : ℕ). option_and_then (λ (n : ℕ). option_map
     (λ (rs : List ℕ). line.Block i (record { address = a; points = n; returns = rs }))
-    (all_on address_of [] (behind (behind (behind ws))))) (front small_of (behind (behind ws))))
-    (front address_of (behind ws))) (front small_of ws)
+    (all_on address_of [] (later (later (later ws))))) (front small_of (later (later ws))))
+    (front address_of (later ws))) (front small_of ws)
 
 abbrev pub param_from : List (List ℕ) → Option Line
 param_from ws =
     option_and_then (λ (name : List ℕ). option_and_then
     (λ (r : ℕ). option_and_then (λ (low : ℤ). option_map
     (λ (high : ℤ). line.Param (record { name = name; register = r; low = low; high = high }))
-    (front narrow_of (behind (behind (behind ws))))) (front narrow_of (behind (behind ws))))
-    (front (λ (w : List ℕ). number_below 256 0 (byte_off w)) (behind ws))) (front (ascii_on []) ws)
+    (front narrow_of (later (later (later ws))))) (front narrow_of (later (later ws))))
+    (front (λ (w : List ℕ). number_below 256 0 (byte_off w)) (later ws))) (front (ascii_on []) ws)
 
 abbrev pub timing_of : List ℕ → Option Line
 timing_of ns =
@@ -201,13 +201,13 @@ timing_from ws = option_and_then timing_of (all_on small_of [] ws)
 
 abbrev pub function_from : List (List ℕ) → Option Line
 function_from ws =
-    option_and_then (λ (e : ℕ). option_map (λ (s : ℕ). line.Function e s) (front small_of (behind (behind ws))))
+    option_and_then (λ (e : ℕ). option_map (λ (s : ℕ). line.Function e s) (front small_of (later (later ws))))
     (front address_of ws)
 
 abbrev pub version_from : List (List ℕ) → Option Line
 version_from ws = option_map line.Version (front (number_below 256 0) ws)
 
--- by its keyword, from the space behind it on
+-- by its keyword, from the space after it on
 abbrev pub plain_by : List ℕ → List (List ℕ) → Option Line
 plain_by key ws =
     if bytes_eq key (codes "loop") then loop_from ws

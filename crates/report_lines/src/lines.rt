@@ -125,7 +125,7 @@ fn keep(
     }
 }
 
-/// Reads a line behind parameters, by whose names it may speak of them.
+/// Reads a line after parameters, by whose names it may speak of them.
 pub fn read_line(
     alloc: Global,
     params: &[ParamRange],

@@ -4,7 +4,7 @@ ghost use Rattle.std.specs.Prelude.{◌≡◌, ◌<◌, ◌^◌, ◌∷◌, [], 
 ghost use Rattle.std.specs.Option.{option_map};
 ghost use Rattle.report_elements.specs.Names.{ascii_on};
 ghost use Rattle.report_elements.specs.Numbers.{number_below};
-ghost use Rattle.report_elements.specs.Words.{address_of, all_on, before, behind, byte_off, from, front, words};
+ghost use Rattle.report_elements.specs.Words.{address_of, all_on, before, later, byte_off, from, front, words};
 ghost use Rattle.linear_rows.specs.declared.rows.Var.TheVariants as var;
 ghost use Rattle.report_lines.specs.Reading.{moved, atom_from, block_from, coef_of, ending_from, fact_from, function_from, high_from, loop_from, low_from, narrow_of, pair_of, param_from, past_way, place_of, register_of, row_from, row_line_from, row_with, small_of, step_from, term_of, timing_from, timing_of, turn_from, var_of, version_from, way_from, waying_from};
 
@@ -472,7 +472,7 @@ pub(crate) fn block_in(alloc: Global, fields: &mut Fields) -> Result<Option<Line
 
 fn register_word(fields: &mut Fields) -> Option<u8>
     ensures value { result ≡ front (λ w. number_below 256 0 (byte_off w)) fields.old }
-    ensures rest { fields.new ≡ behind fields.old }
+    ensures rest { fields.new ≡ later fields.old }
 {
     match fields.next() {
         Some(word) => match number(byte_off(word), 256) {
@@ -485,7 +485,7 @@ fn register_word(fields: &mut Fields) -> Option<u8>
 
 fn narrow_word(fields: &mut Fields) -> Option<i32>
     ensures value { result ≡ front narrow_of fields.old }
-    ensures rest { fields.new ≡ behind fields.old }
+    ensures rest { fields.new ≡ later fields.old }
 {
     match fields.next() {
         Some(word) => narrow_in(word),
@@ -495,7 +495,7 @@ fn narrow_word(fields: &mut Fields) -> Option<i32>
 
 fn name_word(alloc: Global, fields: &mut Fields) -> Result<Option<wsym_terms::Name>, AllocError>
     ensures value { IfOk result (λ o. o ≡ front (ascii_on []) fields.old) }
-    ensures rest { IfOk result (λ o. fields.new ≡ behind fields.old) }
+    ensures rest { IfOk result (λ o. fields.new ≡ later fields.old) }
 {
     match fields.next() {
         Some(word) => name_from(alloc, word),

@@ -316,12 +316,12 @@ none_timing f e = let p = if_not (has f.timing) _ e in nothing (one line.Timing 
 none_function : (f : Form) → no_function f ≡ true → from_function f ≡ []
 none_function f e = let p = if_not (has f.function) _ e in nothing (one (λ (g : Function). line.Function g.entry g.stack) f.function) (from_timing f) (empty_one (λ (g : Function). line.Function g.entry g.stack) f.function p.0) (none_timing f p.1)
 
--- a section gets one line more, and behind it nothing stands
+-- a section gets one line more, and after it nothing stands
 grown : (xs new tail : List Line) (l : Line) → new ≡ xs ++ l ∷ [] → tail ≡ [] → new ++ tail ≡ (xs ++ tail) ++ l ∷ []
 grown xs new tail l is none =
     (λ i. is i ++ none i) ∙ append-nil (xs ++ l ∷ []) ∙ ap (λ (ys : List Line). ys ++ l ∷ []) (sym (append-nil xs) ∙ (λ i. xs ++ sym none i))
 
--- a line more in what stands behind
+-- a line more in what stands after
 further : (xs ys zs : List Line) (l : Line) → ys ≡ zs ++ l ∷ [] → xs ++ ys ≡ (xs ++ zs) ++ l ∷ []
 further xs ys zs l is = ap (λ (vs : List Line). xs ++ vs) is ∙ sym (append_assoc xs zs (l ∷ []))
 
@@ -369,7 +369,7 @@ atoms_more (l ∷ m ∷ n ∷ ls) i owed a some left =
     ap (λ (xs : List Line). line.Loop i l.header l.depth (length l.bound.atoms) ∷ (map line.Atom l.bound.atoms ++ xs)) (atoms_more (m ∷ n ∷ ls) (i + 1) owed a refl left)
     ∙ ap (λ (xs : List Line). line.Loop i l.header l.depth (length l.bound.atoms) ∷ xs) (sym (append_assoc (map line.Atom l.bound.atoms) (open_lines owed (i + 1) (m ∷ n ∷ ls)) (line.Atom a ∷ [])))
 
--- from what stands behind some sections to all
+-- from what stands after some sections to all
 up_function : (f : Form) (l : Line) (new : List Line) → new ≡ from_function f ++ l ∷ [] → one line.Version f.version ++ new ≡ so_far f ++ l ∷ []
 up_function f l new e = further (one line.Version f.version) new (from_function f) l e
 

@@ -134,7 +134,7 @@ module _ {Form Line R : Type 0} (read_line : Form → List ℕ → Option Line) 
     bad_same f cs bs k j e h = subst (λ (x : List ℕ). Bad f x k j) e h
 
     bad_end : (line : List ℕ) (k : ℕ) (f : Form) (j : ℕ) → NoFeed line → j ≡ k → (line ≡ [] → done f ≡ None) → Bad f (line ++ []) k j
-    bad_end line k f j clean is none = ([], f, [], line, (refl, refl), append-nil line, omega (arith, is), (λ l m behind may same. no_split line (text f l) behind clean same), none)
+    bad_end line k f j clean is none = ([], f, [], line, (refl, refl), append-nil line, omega (arith, is), (λ l m later may same. no_split line (text f l) later clean same), none)
 
     bad_here : (line : List ℕ) (k : ℕ) (f : Form) (b : ℕ) (bs : List ℕ) (j : ℕ) → NoFeed line → b ≡ 10 → take_line read_line after done f line ≡ None → j ≡ k → Bad f (line ++ (b ∷ bs)) k j
     bad_here line k f b bs j clean is none at = (
@@ -145,7 +145,7 @@ module _ {Form Line R : Type 0} (read_line : Form → List ℕ → Option Line) 
       (refl, refl),
       refl,
       omega (arith, at),
-      (λ l m behind may same. not_taken line f l m none may (one_split line (text f l) bs behind clean (no_feed f l m may) ((λ i. line ++ (sym is i ∷ bs)) ∙ same))),
+      (λ l m later may same. not_taken line f l m none may (one_split line (text f l) bs later clean (no_feed f l m may) ((λ i. line ++ (sym is i ∷ bs)) ∙ same))),
       (λ e. absurd (not_empty line b bs e)),
     )
 
@@ -204,10 +204,10 @@ module _ {Form Line R : Type 0} (read_line : Form → List ℕ → Option Line) 
     pub walk_bad_only : (ls : List Line) (k : ℕ) (f g : Form) (front rest : List ℕ) → Spells text after f ls g front → NoLine text after g rest → (rest ≡ [] → done g ≡ None) → walk k [] f (front ++ rest) ≡ Err (length ls + k)
     walk_bad_only [] k f g front rest s none fin =
         (λ i. walk k [] (s.0 i) (s.1 i ++ rest)) ∙ stuck k g rest none fin ∙ ap Err (omega arith)
-    walk_bad_only (l ∷ ls) k f g front rest (m, behind, may, is, s) none fin =
+    walk_bad_only (l ∷ ls) k f g front rest (m, later, may, is, s) none fin =
         ap (λ (x : List ℕ). walk k [] f (x ++ rest)) is
-        ∙ ap (walk k [] f) (append_assoc (text f l) (10 ∷ behind) rest)
-        ∙ line_on k [] f (text f l) (10 ∷ (behind ++ rest)) (no_feed f l m may)
-        ∙ ap (or_bad k (λ (h : Form). walk (k + 1) [] h (behind ++ rest))) (ap (option_and_then (after f)) (reads f l m may) ∙ may)
-        ∙ walk_bad_only ls (k + 1) m g behind rest s none fin
+        ∙ ap (walk k [] f) (append_assoc (text f l) (10 ∷ later) rest)
+        ∙ line_on k [] f (text f l) (10 ∷ (later ++ rest)) (no_feed f l m may)
+        ∙ ap (or_bad k (λ (h : Form). walk (k + 1) [] h (later ++ rest))) (ap (option_and_then (after f)) (reads f l m may) ∙ may)
+        ∙ walk_bad_only ls (k + 1) m g later rest s none fin
         ∙ ap Err (omega arith)

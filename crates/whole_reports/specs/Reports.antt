@@ -54,7 +54,7 @@ whole r = record {
   ended = true;
 }
 
--- each of its lines may stand behind those before it
+-- each of its lines may stand after those before it
 abbrev pub is_well_formed : Report → Bool
 is_well_formed r = all_may names_text may put start (lines_of r)
 
