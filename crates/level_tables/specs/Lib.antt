@@ -1,1 +1,2 @@
+pub mod FlowLevels
 pub mod LevelPlaces
