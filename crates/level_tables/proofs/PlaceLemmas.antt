@@ -1,6 +1,5 @@
 -- What a search along a row finds.
-use Rattle.std.proofs.Common.{◌≡◌, ℕ, zero, suc, ◌+◌, ◌<◌, ◌≤◌, Bool, true, false, ◌∷◌, List, [], length, drop, get_or, refl, ap, ◌∙◌, arith}
-use Rattle.std.proofs.lemmas.Bool.{eq-eqb, or_right}
+use Rattle.std.proofs.Common.{◌≡◌, ℕ, zero, suc, ◌+◌, ◌<◌, ◌≤◌, Bool, true, false, ◌∷◌, List, [], length, drop, get_or, refl, ap, ◌∙◌}
 use Rattle.std.specs.Prelude.{◌||◌, if◌then◌else◌, nat_eq}
 use Rattle.std.proofs.lemmas.List.{drop_more}
 use Rattle.std.proofs.Math.ListN.{drop_of_length-le}
@@ -37,12 +36,6 @@ held_next u xs i lt = ap (holds nat_eq u) (drop_more xs i 0 lt)
 
 pub held_none : (u : ℕ) (xs : List ℕ) (i : ℕ) → length xs ≤ i → holds nat_eq u (drop i xs) ≡ false
 held_none u xs i le = ap (holds nat_eq u) (drop_of_length-le xs le)
-
-pub held_at : (xs : List ℕ) (i : ℕ) → i < length xs → holds nat_eq (get_or xs i 0) xs ≡ true
-held_at [] i lt = absurd (omega (arith, lt))
-held_at (x ∷ xs) zero lt = ap (λ b. b || holds nat_eq x xs) (eq-eqb x x refl)
-held_at (x ∷ xs) (suc i) lt = or_right (nat_eq (get_or xs i 0) x) (holds nat_eq (get_or xs i 0) xs)
-    (held_at xs i (omega (arith, lt)))
 
 -- the header of a loop is that of the nest
 pub same_header : (flow : Flow) (n : LoopNest) (c : ℕ) → header_by flow.count n c ≡ header_of flow n c

@@ -1,10 +1,12 @@
 //! The levels of a flow graph's loops as tables: where the blocks stand in them, and their edges.
 #![tactic(auto)]
 
+mod blocks;
 mod edges;
 mod laws;
 mod places;
 
+pub use blocks::blocks_of_loops;
 pub use edges::edges_of_level;
 pub use laws::places_are_of_loops;
 pub use places::LevelPlaces;

@@ -1,5 +1,5 @@
 use Rattle.std.proofs.Common.{slice_index_or}
-use Rattle.level_tables.proofs.PlaceLemmas.{held_at}
+use Rattle.graph_search.proofs.RowLemmas.{held_at}
 use Rattle.level_tables.proofs.edges.edges_of_level.Goals as goal
 
 pub add_block-requires : goal.add_block-requires
