@@ -1,2 +1,3 @@
 pub mod FlowLevels
 pub mod LevelPlaces
+pub mod PathEdges

@@ -4,9 +4,11 @@
 mod blocks;
 mod edges;
 mod laws;
+mod paths;
 mod places;
 
 pub use blocks::blocks_of_loops;
 pub use edges::edges_of_level;
 pub use laws::places_are_of_loops;
+pub use paths::edges_on_paths;
 pub use places::LevelPlaces;
