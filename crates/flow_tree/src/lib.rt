@@ -11,4 +11,4 @@ pub use function::function_tree;
 pub use laws::{levels_are_tasks, levels_of_loops_are_tasks};
 pub use level::{loop_of, plan_between, trees_between};
 pub use nodes::LevelNodes;
-pub use tables::{FlowTables, LevelRows, LoopTree, PathRows};
+pub use tables::{FlowTables, LevelRows, LoopTree, PathRows, header_of, innermost};

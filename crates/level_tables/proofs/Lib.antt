@@ -1,0 +1,2 @@
+pub mod EdgeRowLemmas
+pub mod PlaceLemmas

@@ -1,0 +1,19 @@
+-- The levels of a flow graph with the nest of its loops, and what stands of each block in its leaf.
+use Rattle.std.specs.Prelude.{◌≡◌, ℕ, ◌+◌, List, Some, slice_get}
+use Rattle.wsym_terms.specs.declared.trees.BlockUses.{BlockUses}
+use Rattle.graph_search.specs.Flows.{Flow, edge}
+use Rattle.interval_loops.specs.declared.nest.LoopNest.{LoopNest}
+use Rattle.interval_loops.specs.Nests.{around_of, depth_of, loops_of}
+use Rattle.interval_loops.specs.Rounds.{within_by}
+use Rattle.tree_law.specs.Levels.{Nest}
+use Rattle.tree_law.specs.LevelEdges.{AreLevels, EdgesOf}
+use Rattle.flow_tree.specs.LevelTasks.{AreExact}
+
+-- The edges of the levels are those of the graph and no others, each level lists what lies on paths to its two ends,
+-- whose numbers are the two after the start's, and the leaves have what is given of the blocks.
+pub record IsLevelsOf (flow : Flow) (n : LoopNest) (uses : List BlockUses) (levels : Nest) : Type 0 where
+  pub are : AreLevels (loops_of flow n) (edge flow) (within_by flow (around_of n)) flow.entry (depth_of n)
+      (flow.count + 1) (flow.count + 2) levels
+  pub all : EdgesOf (loops_of flow n) (edge flow) (within_by flow (around_of n)) flow.entry flow.returns levels
+  pub exact : AreExact levels
+  pub costs : (b : ℕ) (u : BlockUses) → slice_get uses b ≡ Some u → (levels.base b ≡ u.base) × (levels.uses b ≡ u.uses)

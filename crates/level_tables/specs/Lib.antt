@@ -1,0 +1,4 @@
+pub mod EdgeRows
+pub mod FlowLevels
+pub mod LevelPlaces
+pub mod PathEdges
