@@ -1,5 +1,5 @@
 -- A report keeps its promises.
-use Rattle.std.proofs.Common.{◌≡◌, ℕ, zero, suc, ◌-◌, ◌<◌, ◌^◌, ℤ, List, [], ◌∷◌, refl, sym, ap, subst}
+use Rattle.std.proofs.Common.{◌≡◌, ℕ, zero, suc, ◌-◌, ◌<◌, ◌^◌, ℤ, List, [], ◌∷◌, map, refl, sym, ap, subst}
 use Rattle.std.specs.Prelude.{slice_get}
 use Rattle.std.specs.List.{AllByRecursion}
 use Rattle.elf32_image.specs.Parts.{ImageValue}
@@ -8,6 +8,7 @@ use Rattle.wsym_terms.specs.declared.trees.Tree.{Tree}
 use Rattle.wsym_terms.specs.Bounds.{least_atom}
 use Rattle.wsym_terms.specs.Extents.{Extent, Infinite, IsWithin}
 use Rattle.wsym_terms.specs.Trees.{tree_value}
+use Rattle.wsym_formula.specs.Values.{bound_at, value_if}
 use Rattle.path_facts.specs.Histories.{IsFollowed}
 use Rattle.interval_loops.specs.Counts.{count}
 use Rattle.report_lines.specs.declared.report.Report.{Report}
@@ -59,3 +60,16 @@ counts_free bounds a free bs (b ∷ rest) = (
 pub unbounded_keeps : (image : ImageValue) (report : Report) (a : Analysis) → HasNoBounds report → KeepsTurns image report a
 unbounded_keeps image report a none values ranged s start route starts is_route states bs listed same =
     counts_free (bounds_at report values) a (λ c. no_bound values report.loops (c - 1) none) [] bs
+
+-- ---- the formula
+
+same_bound : (values : List ℤ) (loops : List ReportLoop) (k : ℕ)
+    → value_if (slice_get (map (λ (l : ReportLoop). l.bound) loops) k) values ≡ loop_value values (slice_get loops k)
+same_bound values [] k = refl
+same_bound values (l ∷ loops) zero = refl
+same_bound values (l ∷ loops) (suc k) = same_bound values loops k
+
+-- the bounds of a report are those of the list of its printed bounds
+pub same_bounds : (values : List ℤ) (loops : List ReportLoop)
+    → ◌≡◌ {A = ℕ → Extent} (bound_at (map (λ (l : ReportLoop). l.bound) loops) values) (λ id. loop_value values (slice_get loops (id - 1)))
+same_bounds values loops = λ i id. same_bound values loops (id - 1) i

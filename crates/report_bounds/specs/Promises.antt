@@ -1,8 +1,10 @@
 -- What a report promises: its formula has the value of its tree, which no returning run exceeds.
-use Rattle.std.specs.Prelude.{◌≡◌, ℕ, ℤ, ◌-◌, ◌≤ℤ◌, Option, Some, None, List, [], ◌∷◌, slice_get, slice_index}
+use Rattle.std.specs.Prelude.{◌≡◌, ℕ, ℤ, ◌-◌, ◌≤ℤ◌, Option, Some, None, List, [], ◌∷◌, map, slice_get}
+use Rattle.std.specs.Prelude.{slice_index}
 use Rattle.std.specs.List.{AllByRecursion}
 use Rattle.elf32_image.specs.Parts.{ImageValue}
 use Rattle.fetch_timing.specs.declared.timing.Timing.{Timing}
+use Rattle.wsym_terms.specs.declared.bounds.Bound.{Bound}
 use Rattle.wsym_terms.specs.declared.bounds.ParamRange.{ParamRange}
 use Rattle.wsym_terms.specs.Bounds.{bound_value}
 use Rattle.wsym_terms.specs.Extents.{Extent, Infinite, IsWithin}
@@ -38,6 +40,10 @@ loop_value values (Some each) = bound_value each.bound values
 -- the value of the bound of a loop by its number, which begins at 1
 abbrev pub bounds_at : Report → List ℤ → ℕ → Extent
 bounds_at report values id = loop_value values (slice_get report.loops (id - 1))
+
+-- the printed bounds of the loops, by their numbers
+abbrev pub printed_bounds : Report → List Bound
+printed_bounds report = map (λ (l : ReportLoop). l.bound) report.loops
 
 -- the cycles of one execution, by the tree and by the formula
 abbrev pub value_of_tree : Report → List ℤ → Extent

@@ -10,7 +10,13 @@ ghost use Rattle.cycle_bounds.specs.Analyses.{Analysis};
 ghost use Rattle.cycle_bounds.specs.Functions.{IsAnalysisOf};
 ghost use Rattle.report_lines.specs.declared.report.Report.{Report as ReportValue};
 ghost use Rattle.report_bounds.specs.Descriptions.{IsReportOf};
-ghost use Rattle.report_bounds.specs.Promises.{HasNoBounds, IsBound, IsExact, IsFormulaBound, KeepsTurns};
+ghost use Rattle.report_bounds.specs.Promises.{HasNoBounds, IsBound, IsExact, IsFormulaBound, KeepsTurns, printed_bounds};
+ghost use Rattle.simplifier.specs.Normal.{normal};
+ghost use Rattle.simplifier.specs.Simplified.{known_of};
+ghost use Rattle.wsym_formula.specs.Trees.{formula_of};
+
+use simplifier::simplified_terms_keep_their_value;
+use wsym_formula::formulas_have_the_value_of_their_trees;
 
 /// The value of a report's tree bounds the runs of the function that the report is of, for all values of its
 /// parameters, where each run keeps the printed bounds of the loops.
@@ -26,6 +32,15 @@ pub fn formulas_are_bounds()
     ensures { (image : ImageValue) (report : ReportValue) → IsExact report → IsBound image report
         → IsFormulaBound image report }
 {}
+
+/// The normal form of the formula of a report's tree, for the printed bounds of its loops, has the value of the tree.
+pub fn formulas_are_exact()
+    ensures { (report : ReportValue) → report.formula ≡ normal (known_of (printed_bounds report))
+        (formula_of report.timing.miss report.tree) → IsExact report }
+{
+    simplified_terms_keep_their_value();
+    formulas_have_the_value_of_their_trees();
+}
 
 /// Where no loop has a printed bound, each run keeps them.
 pub fn no_bounds_are_kept()
