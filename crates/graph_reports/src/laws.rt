@@ -41,8 +41,8 @@ pub fn reports_describe_analyses()
 {}
 
 /// A report with the parts that a function's graph and its loops give, with the tree of levels of them and with the
-/// normal form of its formula, keeps what a report promises: it describes the function, its formula has the value of its
-/// tree, and no returning run costs more. What is asked of the function is that each return brings its own return
+/// normal form of its formula, keeps what a report promises: it describes the function, its formula has the value of
+/// its tree, and no returning run costs more. What is asked of the function is that each return brings its own return
 /// address.
 pub fn graph_reports_are_kept()
     ensures { (image : ImageValue) (t : Timing) (entry stack : ℕ) (g : BlockGraphValue) (n : LoopNestValue)

@@ -12,7 +12,8 @@ pub returns : goal.returns
 returns c image t entry stack g n p u nest params r word small limits graph nested followed points uses levels parts tree formula =
     let analysed = c.graphs_are_analyses.ensures image t entry g n p u nest graph nested points uses levels in
     let a = analysis_of g n p u.scopes analysed.0 nest in
-    let of = c.reports_describe_analyses.ensures.describes image t entry stack g n p u.scopes analysed.0 nest params r graph points parts tree in
+    let of =
+    c.reports_describe_analyses.ensures.describes image t entry stack g n p u.scopes analysed.0 nest params r graph points parts tree in
     let none = c.reports_describe_analyses.ensures.unbounded t stack g n params r parts in
     let turns = c.no_bounds_are_kept.ensures image r a none in
     record {
