@@ -10,6 +10,7 @@
 //! benchmarks run bare|probes TURNS
 //! benchmarks loops ladder|nests|tangle BLOCKS TIMES
 //! benchmarks graph FILE TIMES
+//! benchmarks facts FILE STACK TIMES
 //! benchmarks uses straight|copies|nests POINTS WAYS TIMES
 //! benchmarks formulas tree|value|simplify|none shared|different LEAVES TIMES
 //! ```
@@ -21,6 +22,7 @@
 mod cache;
 mod decode;
 mod entails;
+mod facts;
 mod formulas;
 mod graphs;
 mod image;
@@ -48,10 +50,11 @@ fn done(rt: HostRuntime, words: &[String]) -> anyhow::Result<String> {
         "run" => runs::done(alloc, words),
         "loops" => nests::done(alloc, words),
         "graph" => graphs::done(rt, words),
+        "facts" => facts::done(rt, words),
         "uses" => uses::done(alloc, words),
         "formulas" => formulas::done(alloc, words),
         _ => bail!(
-            "usage: benchmarks multisets|rows|entails|decode|image|cache|run|loops|graph|uses|formulas WORDS"
+            "usage: benchmarks multisets|rows|entails|decode|image|cache|run|loops|graph|facts|uses|formulas WORDS"
         ),
     }
 }
