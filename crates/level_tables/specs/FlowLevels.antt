@@ -1,11 +1,13 @@
 -- The levels of a flow graph with the nest of its loops, and what stands of each block in its leaf.
-use Rattle.std.specs.Prelude.{◌≡◌, ℕ, ◌+◌, List, Some, slice_get}
+use Rattle.std.specs.Prelude.{◌≡◌, ℕ, ◌+◌, ◌≤◌, List, Some, length, slice_get}
+use Rattle.wsym_terms.specs.Trees.{greatest_scope}
 use Rattle.wsym_terms.specs.declared.trees.BlockUses.{BlockUses}
+use Rattle.wsym_terms.specs.declared.trees.Tree.{Tree}
 use Rattle.graph_search.specs.Flows.{Flow, edge}
 use Rattle.interval_loops.specs.declared.nest.LoopNest.{LoopNest}
-use Rattle.interval_loops.specs.Nests.{around_of, depth_of, loops_of}
+use Rattle.interval_loops.specs.Nests.{around_of, depth_of, inner_of, loops_of}
 use Rattle.interval_loops.specs.Rounds.{within_by}
-use Rattle.tree_law.specs.Levels.{Nest}
+use Rattle.tree_law.specs.Levels.{Nest, function_tree}
 use Rattle.tree_law.specs.LevelEdges.{AreLevels, EdgesOf}
 use Rattle.flow_tree.specs.LevelTasks.{AreExact}
 
@@ -17,3 +19,13 @@ pub record IsLevelsOf (flow : Flow) (n : LoopNest) (uses : List BlockUses) (leve
   pub all : EdgesOf (loops_of flow n) (edge flow) (within_by flow (around_of n)) flow.entry flow.returns levels
   pub exact : AreExact levels
   pub costs : (b : ℕ) (u : BlockUses) → slice_get uses b ≡ Some u → (levels.base b ≡ u.base) × (levels.uses b ≡ u.uses)
+
+-- what is given of the blocks' leaves: one for each block, whose uses have no scope inside a deeper loop than the
+-- block's innermost
+pub record AreUsesIn (flow : Flow) (n : LoopNest) (uses : List BlockUses) : Type 0 where
+  pub all : length uses ≡ flow.count
+  pub scopes : (b : ℕ) (u : BlockUses) → slice_get uses b ≡ Some u → greatest_scope u.uses ≤ depth_of n (inner_of n b)
+
+-- the tree of levels of a flow graph, and that no other tree is theirs
+abbrev pub IsTreeOf : Flow → LoopNest → List BlockUses → Tree → Type 0
+IsTreeOf flow n uses t = (levels : Nest) × IsLevelsOf flow n uses levels × (t ≡ function_tree levels 17)

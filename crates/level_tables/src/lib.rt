@@ -7,6 +7,7 @@ mod laws;
 mod links;
 mod paths;
 mod places;
+mod trees;
 
 pub use blocks::blocks_of_loops;
 pub use edges::edges_of_level;
@@ -14,3 +15,4 @@ pub use laws::places_are_of_loops;
 pub use links::EdgeRows;
 pub use paths::edges_on_paths;
 pub use places::LevelPlaces;
+pub use trees::tree;
