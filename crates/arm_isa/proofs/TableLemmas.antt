@@ -34,14 +34,14 @@ general_lines =
     ∷ Decodes branch_fits (λ _. false) branch_op
     ∷ []
 
-behind : (w : ℕ) → field w 25 3 ≢ 0 → first_fit table w ≡ first_fit general_lines w
-behind w h = rw (exchange_class w h, multiply_class w h, long_class w h, half_class w h, extension_class w h) refl
+after : (w : ℕ) → field w 25 3 ≢ 0 → first_fit table w ≡ first_fit general_lines w
+after w h = rw (exchange_class w h, multiply_class w h, long_class w h, half_class w h, extension_class w h) refl
 
 compute_fits_1 : (w : ℕ) → field w 25 3 ≡ 1 → compute_fits w ≡ true
 compute_fits_1 w h = grind (arith, nat_tests)
 
 pub to_compute : (w : ℕ) → field w 25 3 ≡ 1 → first_fit table w ≡ unless compute_refused compute_op w
-to_compute w h = behind w (λ e. omega arith) ∙ rw (compute_fits_1 w h) refl
+to_compute w h = after w (λ e. omega arith) ∙ rw (compute_fits_1 w h) refl
 
 compute_fits_more : (w : ℕ) → 1 < field w 25 3 → compute_fits w ≡ false
 compute_fits_more w h = grind (arith, nat_tests)
@@ -65,22 +65,22 @@ branch_fits_not : (w : ℕ) → field w 25 3 ≢ 5 → branch_fits w ≡ false
 branch_fits_not w h = grind (arith, nat_tests)
 
 pub to_word_constant : (w : ℕ) → field w 25 3 ≡ 2 → first_fit table w ≡ unless word_refused word_op w
-to_word_constant w h = behind w (λ e. omega arith) ∙ rw (compute_fits_more w (omega arith), word_fits_2 w h) refl
+to_word_constant w h = after w (λ e. omega arith) ∙ rw (compute_fits_more w (omega arith), word_fits_2 w h) refl
 
 pub to_word_register : (w : ℕ) → field w 25 3 ≡ 3 → flag w 4 ≡ false → first_fit table w ≡ unless word_refused word_op w
-to_word_register w h b = behind w (λ e. omega arith) ∙ rw (compute_fits_more w (omega arith), word_fits_3 w h b) refl
+to_word_register w h b = after w (λ e. omega arith) ∙ rw (compute_fits_more w (omega arith), word_fits_3 w h b) refl
 
 pub to_media : (w : ℕ) → field w 25 3 ≡ 3 → flag w 4 ≡ true → first_fit table w ≡ None
-to_media w h b = behind w (λ e. omega arith) ∙ rw (compute_fits_more w (omega arith), word_fits_none w h b, block_fits_not w (λ e. omega arith), branch_fits_not w (λ e. omega arith)) refl
+to_media w h b = after w (λ e. omega arith) ∙ rw (compute_fits_more w (omega arith), word_fits_none w h b, block_fits_not w (λ e. omega arith), branch_fits_not w (λ e. omega arith)) refl
 
 pub to_block : (w : ℕ) → field w 25 3 ≡ 4 → first_fit table w ≡ unless block_refused block_op w
-to_block w h = behind w (λ e. omega arith) ∙ rw (compute_fits_more w (omega arith), word_fits_more w (omega arith), h) refl
+to_block w h = after w (λ e. omega arith) ∙ rw (compute_fits_more w (omega arith), word_fits_more w (omega arith), h) refl
 
 pub to_branch : (w : ℕ) → field w 25 3 ≡ 5 → first_fit table w ≡ unless (λ _. false) branch_op w
-to_branch w h = behind w (λ e. omega arith) ∙ rw (compute_fits_more w (omega arith), word_fits_more w (omega arith), block_fits_not w (λ e. omega arith), h) refl
+to_branch w h = after w (λ e. omega arith) ∙ rw (compute_fits_more w (omega arith), word_fits_more w (omega arith), block_fits_not w (λ e. omega arith), h) refl
 
 pub to_nothing : (w : ℕ) → 5 < field w 25 3 → first_fit table w ≡ None
-to_nothing w h = behind w (λ e. omega arith) ∙ rw (compute_fits_more w (omega arith), word_fits_more w (omega arith), block_fits_not w (λ e. omega arith), branch_fits_not w (λ e. omega arith)) refl
+to_nothing w h = after w (λ e. omega arith) ∙ rw (compute_fits_more w (omega arith), word_fits_more w (omega arith), block_fits_not w (λ e. omega arith), branch_fits_not w (λ e. omega arith)) refl
 
 -- bits 27:25 are 000
 

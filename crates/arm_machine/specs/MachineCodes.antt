@@ -1,4 +1,4 @@
--- A code for the values of machines, by which proofs tell them apart.
+-- A code for the values of machines, by which proofs keep them apart.
 use Rattle.std.specs.Prelude.{ℕ, List, refl}
 use Rattle.std.specs.Coded.{Coded, code_by, coded×, coded_ℕ, coded_list}
 use Rattle.std.specs.FinMap as map

@@ -78,7 +78,7 @@ impl Multi {
         self.runs.as_slice()
     }
 
-    /// What each place behind the runs costs.
+    /// What each place after the runs costs.
     pub fn tail(&self) -> Cost
         ensures { result ≡ self.now.tail }
     {
@@ -202,7 +202,7 @@ impl Multi {
         Ok(costs)
     }
 
-    /// The sums of so many places each, at least one.
+    /// The sums of groups of places, each of the same number of them, at least one.
     fn group_places(&self, alloc: Global, by: u128) -> Result<Multi, AllocError>
         requires { 1 ≤ by }
         ensures places { IfOk result (λ costs. (k : ℕ) → place costs k ≡ grouped (CostValue.Fin by) (place self.now) k) }

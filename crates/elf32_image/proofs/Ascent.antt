@@ -19,7 +19,7 @@ lower_floor low high (h ∷ hs) below up =
     let rise : low ≤ h.p_vaddr = omega (arith, first_rise high h hs up) in
     and_from _ _ (le-leb _ _ rise) (later_rise high h hs up)
 
--- each segment begins at the floor or behind it
+-- each segment begins at the floor or after it
 pub above_floor : (floor i : ℕ) (hs : List ProgramHeader) (d : ProgramHeader) → ascend floor hs ≡ true → i < length hs → floor ≤ (get_or hs i d).p_vaddr
 above_floor floor i [] d up inside = grind arith
 above_floor floor zero (h ∷ hs) d up inside = first_rise floor h hs up
@@ -38,7 +38,7 @@ rise_take floor (suc i) [] up = refl
 rise_take floor (suc i) (h ∷ hs) up =
     and_from _ _ (le-leb _ _ (first_rise floor h hs up)) (rise_take (h.p_vaddr + h.p_memsz) i hs (later_rise floor h hs up))
 
--- what passes no address: an end at or before it, a beginning behind it
+-- what passes no address: an end at or before it, a beginning after it
 pub ends_before : (a : ℕ) (h : ProgramHeader) → h.p_vaddr + h.p_memsz ≤ a → has_address a h ≡ false
 ends_before a h end = and_right _ _ (le-ltb _ _ end)
 
@@ -71,7 +71,7 @@ find_behind a floor (suc i) (h ∷ hs) d up inside start =
     find_behind a (h.p_vaddr + h.p_memsz) i hs d up_behind inside_behind start
     ∙ sym (passes (has_address a) h hs (ends_before a h end))
 
--- nor is it at or behind one that begins behind the address
+-- nor is it at or after one that begins after the address
 pub find_before : (a floor i : ℕ) (hs : List ProgramHeader) (d : ProgramHeader) → ascend floor hs ≡ true → i < length hs → a < (get_or hs i d).p_vaddr → find (has_address a) (take i hs) ≡ find (has_address a) hs
 find_before a floor i [] d up inside start = grind arith
 find_before a floor zero (h ∷ hs) d up inside start =
@@ -96,7 +96,7 @@ found_all p q x (y ∷ ys) e all =
     (λ no. found_all p q x ys (sym (passes p y ys no) ∙ e) (and_parts (q y) (list_all q ys) all).1)
     (cases_Bool (p y))
 
--- a look-up that finds a segment is of an address at the floor or behind it
+-- a look-up that finds a segment is of an address at the floor or after it
 pub found_above : (a floor : ℕ) (h : ProgramHeader) (hs : List ProgramHeader) → ascend floor hs ≡ true → find (has_address a) hs ≡ Some h → floor ≤ a
 found_above a floor h hs up e =
     ⊎_elim (λ below. absurd (clash (none_below a floor hs up below) e)) (λ above. above) (cases_lt a floor)

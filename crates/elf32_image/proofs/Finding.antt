@@ -130,7 +130,7 @@ symbols_fit file table all count s test whole from counted =
     (λ within. let fits = leb-true _ _ within in omega arith)
     (or_cases _ _ ends.0)
 
--- the sections behind a whole one are whole, and it is
+-- the sections after a whole one are whole, and it is
 pub whole_first : (size : ℕ) (all : List SectionHeader) (n : ℕ) (rest : List ℕ) (s : SectionHeader) → s ≡ section_header rest → 0 < n → list_all (is_whole size all) (section_headers n rest) ≡ true → is_whole size all s ≡ true
 whole_first size all n rest s read some test =
     ap (is_whole size all) read ∙ (and_parts _ _ (ap (list_all (is_whole size all)) (sym (next_section n rest some)) ∙ test)).0

@@ -15,7 +15,7 @@ use Rattle.elf32_image.specs.declared.format.FileHeader.{FileHeader}
 use Rattle.elf32_image.specs.declared.format.ProgramHeader.{ProgramHeader}
 use Rattle.elf32_image.proofs.Ascent.{above_floor, ends_before, first_rise, found, found_passes, later_rise, passes}
 
--- Pairs of elements that a test holds of, each with one behind it. Twice their number is the same in each order.
+-- Pairs of elements that a test holds of, each with one after it. Twice their number is the same in each order.
 module _ {X : Type 0} (R : X → X → Bool) where
   abbrev pub any_pair : List X → Bool
   any_pair [] = false
@@ -32,8 +32,8 @@ one_more n = omega arith
 joined : (fg f g both fs gs x y : ℕ) → both ≡ (f + g) + fg → fg ≡ fs + gs → x ≡ f + fs → y ≡ g + gs → both ≡ x + y
 joined fg f g both fs gs x y a b c d = omega arith
 
-doubled : (all head spread one count rest own behind pairs : ℕ) → all ≡ head + spread → head ≡ one + count → spread ≡ count + rest → rest ≡ behind + 2 * pairs → own ≡ one + behind → all ≡ own + 2 * (count + pairs)
-doubled all head spread one count rest own behind pairs a b c d e = omega arith
+doubled : (all head spread one count rest own after pairs : ℕ) → all ≡ head + spread → head ≡ one + count → spread ≡ count + rest → rest ≡ after + 2 * pairs → own ≡ one + after → all ≡ own + 2 * (count + pairs)
+doubled all head spread one count rest own after pairs a b c d e = omega arith
 
 halved : (all again own too pairs others : ℕ) → all ≡ own + 2 * pairs → again ≡ too + 2 * others → again ≡ all → too ≡ own → pairs ≡ others
 halved all again own too pairs others a b c d = omega arith
@@ -119,9 +119,9 @@ overlap_by_pairs file (h ∷ hs) =
     ap (λ b. b || has_overlap (map (segment_of file) hs)) (any_mapped (segment_of file) (overlaps (segment_of file h)) hs)
     ∙ ap (λ b. list_any (meet file h) hs || b) (overlap_by_pairs file hs)
 
--- a segment behind the end of another shares no address with it
+-- a segment after the end of another shares no address with it
 apart : (a b c d : ℕ) → b ≤ c → ltb (max a c) (min b d) ≡ false
-apart a b c d behind = le-ltb (max a c) (min b d) (omega arith)
+apart a b c d after = le-ltb (max a c) (min b d) (omega arith)
 
 none_behind : (file : List ℕ) (h : ProgramHeader) (floor : ℕ) (hs : List ProgramHeader) → h.p_vaddr + h.p_memsz ≤ floor → ascend floor hs ≡ true → list_any (meet file h) hs ≡ false
 none_behind file h floor [] below up = refl
@@ -169,9 +169,9 @@ descent_meets file floor h (g ∷ gs) up sized start not_up =
     let order : h.p_vaddr ≤ g.p_vaddr = up 0 1 h (omega arith) (omega arith) in
     let some : 0 < g.p_memsz = size_positive g (and_parts _ _ (and_parts (is_loaded h) (list_all is_loaded (g ∷ gs)) sized).1).0 in
     ap (λ b. (b || list_any (meet file h) gs) || any_pair (meet file) (g ∷ gs)) (crossing h.p_vaddr (h.p_vaddr + h.p_memsz) g.p_vaddr (g.p_vaddr + g.p_memsz) order inside (omega arith)))
-    (λ behind.
+    (λ after.
     let not_behind : ascend (h.p_vaddr + h.p_memsz) (g ∷ gs) ≡ false = ap (λ b. b && ascend (h.p_vaddr + h.p_memsz) (g ∷ gs)) (sym (le-leb floor h.p_vaddr start)) ∙ not_up in
-    ap (λ b. list_any (meet file h) (g ∷ gs) || b) (descent_meets file (h.p_vaddr + h.p_memsz) g gs (rises_behind h (g ∷ gs) up) (and_parts (is_loaded h) (list_all is_loaded (g ∷ gs)) sized).1 behind not_behind)
+    ap (λ b. list_any (meet file h) (g ∷ gs) || b) (descent_meets file (h.p_vaddr + h.p_memsz) g gs (rises_behind h (g ∷ gs) up) (and_parts (is_loaded h) (list_all is_loaded (g ∷ gs)) sized).1 after not_behind)
     ∙ or_true (list_any (meet file h) (g ∷ gs)))
     (cases_lt g.p_vaddr (h.p_vaddr + h.p_memsz))
 
@@ -222,9 +222,9 @@ one_found a floor k h [] up below here has = grind arith
 one_found a floor zero h (g ∷ gs) up below here has = found (has_address a) g gs (ap (has_address a) here ∙ has) ∙ ap (λ (x : ProgramHeader). Some x) here
 one_found a floor (suc k) h (g ∷ gs) up below here has =
     let start : h.p_vaddr ≤ a = leb-true _ _ (and_parts (leb h.p_vaddr a) (ltb a (h.p_vaddr + h.p_memsz)) has).0 in
-    let behind : g.p_vaddr + g.p_memsz ≤ (get_or gs k h).p_vaddr = above_floor (g.p_vaddr + g.p_memsz) k gs h (later_rise floor g gs up) (omega arith) in
+    let after : g.p_vaddr + g.p_memsz ≤ (get_or gs k h).p_vaddr = above_floor (g.p_vaddr + g.p_memsz) k gs h (later_rise floor g gs up) (omega arith) in
     let read : (get_or gs k h).p_vaddr ≡ h.p_vaddr = ap (λ (x : ProgramHeader). x.p_vaddr) here in
-    let end : g.p_vaddr + g.p_memsz ≤ a = omega (arith, behind, read, start) in
+    let end : g.p_vaddr + g.p_memsz ≤ a = omega (arith, after, read, start) in
     passes (has_address a) g gs (ends_before a g end) ∙ one_found a (g.p_vaddr + g.p_memsz) k h gs (later_rise floor g gs up) (omega arith) here has
 
 -- a look-up in the order of the addresses finds what one in the order of the headers does

@@ -70,8 +70,8 @@ constant = refl
 pub last_byte : loaded image 0x8007 ≡ ReadOnly 0xe1
 last_byte = refl
 
-pub behind : loaded image 0x8008 ≡ No
-behind = refl
+pub after : loaded image 0x8008 ≡ No
+after = refl
 
 -- segments that touch share no address, and those that meet in a zero do
 abbrev part : ℕ → ℕ → Segment
@@ -107,7 +107,7 @@ thumb_code = refl
 pub no_symbol : function_of named [] ≡ Err NoSymbol
 no_symbol = refl
 
--- a name ends before a zero byte or at the end, and one behind the end is empty
+-- a name ends before a zero byte or at the end, and one after the end is empty
 pub name_ends : until_zero (102 ∷ 111 ∷ 0 ∷ 103 ∷ []) ≡ 102 ∷ 111 ∷ []
 name_ends = refl
 

@@ -1,4 +1,4 @@
--- Tables of entries, one behind the other: the first entry, those behind it, and the entry at a place.
+-- Tables of entries, one after the other: the first entry, those after it, and the entry at a place.
 use Rattle.std.proofs.Common.{◌≡◌, ℕ, ◌+◌, ◌-◌, ◌*◌, ◌<◌, ◌≤◌, zero, suc, Bool, true, false, ◌&&◌, cond, List, [], ◌∷◌, ◌++◌, append_assoc, length, drop, Some, None, refl, sym, ap, ◌∙◌, arith, length-drop, drop-drop, filter, slice_get, ⊎_elim}
 use Rattle.std.specs.List.{list_all}
 use Rattle.std.proofs.lemmas.Bool.{and_left, eqb-true, leb-true, or_cases}
@@ -16,7 +16,7 @@ room_left size (suc n) rest next is some room =
     let more : size * suc n ≡ size * n + size = omega arith in
     rw less (omega arith)
 
--- a table with entries has its first one, and those behind it
+-- a table with entries has its first one, and those after it
 pub next_program : (n : ℕ) (rest : List ℕ) → 0 < n → program_headers n rest ≡ program_header rest ∷ program_headers (n - 1) (drop 32 rest)
 next_program zero rest some = grind arith
 next_program (suc n) rest some = let less : suc n - 1 ≡ n = omega arith in rw less

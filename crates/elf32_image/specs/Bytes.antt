@@ -23,7 +23,7 @@ covers address segment = nat_le segment.address address && nat_lt address (segme
 abbrev pub holder : ImageValue → ℕ → Option Segment
 holder image address = find (covers address) image.segments
 
--- the byte that a segment holds at one of its addresses: the file's, and 0 behind those
+-- the byte that a segment holds at one of its addresses: the file's, and 0 after those
 abbrev pub byte_of : Segment → ℕ → ℕ
 byte_of segment address = unwrap_or (slice_get segment.bytes (address - segment.address)) 0
 

@@ -7,7 +7,7 @@ use Rattle.elf32_image.specs.Segments.{image_with, is_complete, is_within, segme
 use Rattle.elf32_image.specs.declared.format.FileHeader.{FileHeader}
 use Rattle.elf32_image.specs.declared.format.ProgramHeader.{ProgramHeader}
 
--- each segment begins at or behind the end of the one before, the first at `floor` or behind it
+-- each segment begins at or after the end of the one before, the first at `floor` or after it
 abbrev pub ascend : ℕ → List ProgramHeader → Bool
 ascend floor [] = true
 ascend floor (header ∷ headers) = nat_le floor header.p_vaddr && ascend (header.p_vaddr + header.p_memsz) headers

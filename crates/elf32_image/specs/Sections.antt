@@ -16,7 +16,7 @@ section_header bytes = record {
   sh_link = word_field bytes 24;
 }
 
--- so many section headers of 40 bytes, one behind the other
+-- n section headers of 40 bytes, one after the other
 abbrev pub section_headers : ℕ → List ℕ → List SectionHeader
 section_headers zero table = []
 section_headers (suc count) table = section_header table ∷ section_headers count (drop 40 table)
@@ -25,11 +25,11 @@ section_headers (suc count) table = section_header table ∷ section_headers cou
 abbrev pub is_symbol_table : SectionHeader → Bool
 is_symbol_table section = section.sh_type == 2
 
--- the symbols of a symbol table; they have 16 bytes, and what is left of it behind the last is none
+-- the symbols of a symbol table; they have 16 bytes, and what is left of it after the last is none
 abbrev pub symbol_count : SectionHeader → ℕ
 symbol_count section = section.sh_size / 16
 
--- a table of so many entries has none, or ends within the file
+-- a table of n entries has none, or ends within the file
 abbrev pub ends_within : ℕ → ℕ → SectionHeader → Bool
 ends_within file_size entries section = entries == 0 || nat_le (section.sh_offset + section.sh_size) file_size
 
@@ -58,7 +58,7 @@ symbol_at bytes = record {
   st_shndx = half_field bytes 14;
 }
 
--- so many symbols of 16 bytes, one behind the other
+-- n symbols of 16 bytes, one after the other
 abbrev pub symbols : ℕ → List ℕ → List Symbol
 symbols zero table = []
 symbols (suc count) table = symbol_at table ∷ symbols count (drop 16 table)
@@ -76,7 +76,7 @@ until_zero (byte ∷ bytes) = if byte == 0 then [] else byte ∷ until_zero byte
 abbrev pub named_in : List ℕ → Symbol → FunctionSymbol
 named_in strings symbol = record { name = until_zero (drop symbol.st_name strings); value = symbol.st_value }
 
--- the function symbols among so many symbols, with their names in the string table
+-- the function symbols among n symbols, with their names in the string table
 abbrev pub functions_among : List ℕ → ℕ → List ℕ → List FunctionSymbol
 functions_among strings count table = map (named_in strings) (filter is_function (symbols count table))
 

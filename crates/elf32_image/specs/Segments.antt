@@ -23,7 +23,7 @@ program_header bytes = record {
   p_flags = word_field bytes 24;
 }
 
--- so many program headers of 32 bytes, one behind the other
+-- n program headers of 32 bytes, one after the other
 abbrev pub program_headers : ℕ → List ℕ → List ProgramHeader
 program_headers zero table = []
 program_headers (suc count) table = program_header table ∷ program_headers count (drop 32 table)
@@ -56,7 +56,7 @@ loaded_headers file header = filter is_loaded (program_headers header.program_co
 abbrev pub sections_of : List ℕ → FileHeader → List SectionHeader
 sections_of file header = section_headers header.section_count (drop header.section_offset file)
 
--- a table of so many entries of a size is empty or ends within the file
+-- a table of n entries of a size is empty or ends within the file
 abbrev pub table_is_within : ℕ → ℕ → ℕ → ℕ → Bool
 table_is_within file_size entry_size offset count = count == 0 || nat_le (offset + entry_size * count) file_size
 

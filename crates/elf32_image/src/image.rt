@@ -51,7 +51,7 @@ impl Loaded {
 /// function symbols, in the order of the symbol tables. No two segments share an address.
 ///
 /// An image keeps the file's bytes once. Segments and symbols are read from there, and the zeros of a
-/// segment behind its bytes from the file take no memory.
+/// segment after its bytes from the file take no memory.
 #[derive(Drop)]
 pub struct Image {
     // The bytes of the file.

@@ -6,7 +6,7 @@ ghost use Rattle.elf32_image.specs.Sections.{bytes_of, ends_within, is_there, is
 
 use crate::format::{SIZEOF_SHDR, SectionHeader, from_offset};
 
-/// Whether each symbol table among so many sections is whole, and so is the section of its names.
+/// Whether each symbol table among `count` sections is whole, and so is the section of its names.
 pub(crate) fn are_whole(file_size: usize, count: u16, table: &[u8]) -> bool
     requires { 40 * count ≤ length table.now }
     ensures { result ≡ list_all (is_whole file_size (section_headers count table.now)) (section_headers count table.now) }
@@ -36,11 +36,11 @@ pub(crate) fn linked_bytes<'a>(
     match linked(count, table, section) {
         None => &[],
         Some(names) => {
-            let behind = from_offset(file, names.sh_offset as usize);
-            if (names.sh_size as usize) < behind.len() {
-                &behind[..names.sh_size as usize]
+            let after = from_offset(file, names.sh_offset as usize);
+            if (names.sh_size as usize) < after.len() {
+                &after[..names.sh_size as usize]
             } else {
-                behind
+                after
             }
         }
     }
@@ -72,7 +72,7 @@ fn linked(count: u16, table: &[u8], section: &SectionHeader) -> Option<SectionHe
     }
 }
 
-// Whether a table of so many entries has none, or ends within a file of this size.
+// Whether a table of this number of entries has none, or ends within a file of this size.
 fn does_end_within(file_size: usize, entries: u32, section: &SectionHeader) -> bool
     ensures { result ≡ ends_within file_size entries section.now }
 {

@@ -77,7 +77,7 @@ impl ProgramHeader {
     }
 }
 
-/// Whether the segments lie apart, each behind those before it.
+/// Whether the segments lie apart, each after those before it.
 pub(crate) fn do_ascend(loaded: &[ProgramHeader]) -> bool
     ensures { result ≡ ascend 0 loaded.now }
 {

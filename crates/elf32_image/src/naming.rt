@@ -10,7 +10,7 @@ use crate::format::{SIZEOF_SHDR, SIZEOF_SYM, SectionHeader, Symbol, from_offset}
 use crate::linking::linked_bytes;
 use crate::refusal::NameRefusal;
 
-/// The value of the function with the name, in a file with so many sections.
+/// The value of the function with the name, in a file with `count` sections.
 pub(crate) fn value_of(
     file: &[u8],
     count: u16,
@@ -24,7 +24,7 @@ pub(crate) fn value_of(
     settle(find_in_sections(file, count, table, name)?)
 }
 
-// The value that all function symbols with the name have, in a file with so many sections.
+// The value that all function symbols with the name have, in a file with `count` sections.
 fn find_in_sections(
     file: &[u8],
     count: u16,

@@ -109,7 +109,7 @@ fn is_file_complete(file: &[u8], header: &FileHeader) -> bool
         && are_whole(file.len(), header.section_count, sections)
 }
 
-// Whether a table of so many entries of a size is empty or ends within a file of this size.
+// Whether a table of `count` entries of a size is empty or ends within a file of this size.
 fn is_table_within(file_size: usize, entry_size: usize, offset: u32, count: u16) -> bool
     requires { entry_size ≤ 40 }
     ensures { result ≡ table_is_within file_size entry_size offset count }
@@ -117,7 +117,7 @@ fn is_table_within(file_size: usize, entry_size: usize, offset: u32, count: u16)
     count == 0 || offset as usize + entry_size * usize::from(count) <= file_size
 }
 
-// Whether each loaded segment of so many program headers is within the file and the memory.
+// Whether each loaded segment among the first `count` program headers is within the file and the memory.
 fn are_within(file_size: usize, count: u16, table: &[u8]) -> bool
     requires { 32 * count ≤ length table.now }
     ensures { result ≡ list_all (is_within file_size) (filter is_loaded (program_headers count table.now)) }
@@ -135,7 +135,7 @@ fn are_within(file_size: usize, count: u16, table: &[u8]) -> bool
     true
 }
 
-// The headers of the loaded segments among so many program headers.
+// The headers of the loaded segments among the first `count` program headers.
 fn read_loaded(alloc: Global, count: u16, table: &[u8]) -> Result<Vec<ProgramHeader>, AllocError>
     requires { 32 * count ≤ length table.now }
     ensures { IfOk result (λ loaded. loaded.items ≡ filter is_loaded (program_headers count table.now)) }

@@ -70,7 +70,7 @@ covered_holds p [] r d e h = absurd (cc)
 covered_holds p (s ∷ ss) r d e h =
     ⊎_elim
     (λ here. let parts = both_true (is_alike s r) (int_le s.constant r.constant) here in alike_holds p s r d parts.0 (le_of s.constant r.constant parts.1) h.0)
-    (λ behind. covered_holds p ss r d behind h.1)
+    (λ after. covered_holds p ss r d after h.1)
     (either_true (is_alike s r && int_le s.constant r.constant) (is_covered ss r) e)
 
 true_and : (a b : Bool) → a ≡ true → (a && b) ≡ false → b ≡ false

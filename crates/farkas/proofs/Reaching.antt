@@ -81,12 +81,12 @@ pub factor_behind : (y : Var) (ts : List RowTerm) → Follows y ts → factor_of
 factor_behind y [] h = refl
 factor_behind y (t ∷ ts) h = ap (λ (o : Ordering). if is_eq o then t.factor else factor_of y ts) h.0 ∙ factor_behind y ts h.1
 
-sum-behind : (y : Var) (n m : ℤ) (v : Valuation) (ts : List RowTerm) → Follows y ts → sum_at (spread y n m v) ts ≡ m *ℤ sum_at v ts
-sum-behind y n m v [] h = sym (*ℤ-zero m)
-sum-behind y n m v (t ∷ ts) h =
+sum-after : (y : Var) (n m : ℤ) (v : Valuation) (ts : List RowTerm) → Follows y ts → sum_at (spread y n m v) ts ≡ m *ℤ sum_at v ts
+sum-after y n m v [] h = sym (*ℤ-zero m)
+sum-after y n m v (t ∷ ts) h =
     let e : t.factor *ℤ spread y n m v t.var ≡ t.factor *ℤ (m *ℤ v t.var) = ap (λ (z : ℤ). t.factor *ℤ z) (spread_at y n m v t.var Greater (less_greater t.var y h.0)) in
     let f = swap t.factor m (v t.var) in
-    let g = sum-behind y n m v ts h.1 in let k = mul-add m (t.factor *ℤ v t.var) (sum_at v ts) in omega (arith, ints)
+    let g = sum-after y n m v ts h.1 in let k = mul-add m (t.factor *ℤ v t.var) (sum_at v ts) in omega (arith, ints)
   where
     swap : (a b c : ℤ) → a *ℤ (b *ℤ c) ≡ b *ℤ (a *ℤ c)
     swap a b c = sym (mul_assoc a b c) ∙ ap (λ (z : ℤ). z *ℤ c) (*ℤ_comm a b) ∙ mul_assoc b a c
@@ -97,14 +97,14 @@ sum-spread y n m v [] h k = let e = zero-*ℤ n in let f = *ℤ-zero m in omega 
 sum-spread y n m v (t ∷ ts) h k =
     by_order y t.var
     (λ less.
-    let other = sum-behind y n m v (t ∷ ts) (less, follows_before y t.var ts less k.0) in
+    let other = sum-after y n m v (t ∷ ts) (less, follows_before y t.var ts less k.0) in
     let factor : factor_of y (t ∷ ts) *ℤ n ≡ pos 0 *ℤ n = ap (λ (z : ℤ). z *ℤ n) (factor_behind y (t ∷ ts) (less, follows_before y t.var ts less k.0)) in
     let none = zero-*ℤ n in omega (arith, ints))
     (λ equal.
     let same = same_var y t.var equal in
     let first : t.factor *ℤ spread y n m v t.var ≡ t.factor *ℤ n =
     ap (λ (z : ℤ). t.factor *ℤ z) (spread_at y n m v t.var Equal (ap (λ (w : Var). var_cmp w y) (sym same) ∙ equal_itself y)) in
-    let rest = sum-behind y n m v ts (subst (λ (w : Var). Follows w ts) (sym same) k.0) in
+    let rest = sum-after y n m v ts (subst (λ (w : Var). Follows w ts) (sym same) k.0) in
     let factor : factor_of y (t ∷ ts) *ℤ n ≡ t.factor *ℤ n = ap (λ (o : Ordering). (if is_eq o then t.factor else factor_of y ts) *ℤ n) equal in
     let gone : t.factor *ℤ v t.var ≡ pos 0 = ap (λ (w : Var). t.factor *ℤ v w) (sym same) ∙ ap (λ (z : ℤ). t.factor *ℤ z) h ∙ *ℤ-zero t.factor in
     let whole : m *ℤ ((t.factor *ℤ v t.var) +ℤ sum_at v ts) ≡ m *ℤ sum_at v ts = ap (λ (z : ℤ). m *ℤ z) (omega (arith, ints)) in

@@ -34,7 +34,7 @@ abbrev pub vars_of : List Var → List Inequality → List Var
 vars_of vs [] = vs
 vars_of vs (row ∷ rows) = vars_of (with_vars vs row.terms) rows
 
--- what the test whether rows entail one starts with: the rows, and behind them the last variable as the left
+-- what the test whether rows entail one starts with: the rows, and after them the last variable as the left
 -- side of the row
 abbrev pub start_of : List Inequality → Inequality → List Derivation
 start_of rows row = given_from 0 rows ++ at_most_last row.terms ∷ at_least_last row.terms ∷ []

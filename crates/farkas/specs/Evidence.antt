@@ -13,7 +13,7 @@ use Rattle.farkas.specs.Points.{MeetsEach, Breaks, valuation_of, IsPoint}
 abbrev pub nothing : Inequality
 nothing = record { terms = []; constant = pos 0 }
 
--- the inequality at a place, `0 ≤ 0` behind the end
+-- the inequality at a place, `0 ≤ 0` after the end
 abbrev pub row_at : List Inequality → ℕ → Inequality
 row_at rows place = slice_index_or rows place nothing
 

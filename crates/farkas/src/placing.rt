@@ -221,7 +221,7 @@ fn multiple(by: u128, number: &i128) -> Option<i128>
     weigh_number(Weight::times(by), *number)
 }
 
-/// A number, and behind it the multiples of others. None where one passes the limit.
+/// A number, and after it the multiples of others. None where one passes the limit.
 fn scale(
     alloc: Global,
     first: i128,

@@ -40,7 +40,7 @@ impl CacheSet {
         }
     }
 
-    /// Fetches a line and says whether it was there. It becomes the newest, and a set of so many lines
+    /// Fetches a line and says whether it was there. It becomes the newest, and a set of `ways` lines
     /// loses the oldest.
     #[tactic(auto, using(crate::proofs::Fetching::distinct_after, crate::proofs::Fetching::front_of_places))]
     pub(crate) fn fetch(&mut self, ways: usize, line: u32) -> bool
@@ -64,7 +64,7 @@ struct Outcome {
     used: usize,
 }
 
-/// Fetches a line into places of which so many are used.
+/// Fetches a line into places of which the first `used` are used.
 #[tactic(auto, using(crate::proofs::Fetching::fetched_newest, crate::proofs::Fetching::fetched_hit, crate::proofs::Fetching::fetched_room, crate::proofs::Fetching::fetched_full))]
 fn fetch(places: &mut [u32], used: usize, line: u32) -> Outcome
     requires some { 0 < length places.old }

@@ -16,13 +16,13 @@ unless_less a b h = let k : b < suc a = lt_of_not-le (λ (m : suc a ≤ b). h (o
 next_multiple : (n d : ℕ) → 0 < d → d ∣ suc n → d * suc (n / d) ≡ suc n
 next_multiple n d h k =
     let whole = div-add-mod n d in
-    let behind : suc n ≡ n / d * d + suc (n % d) = let e = div-add-mod' n d in omega arith in
+    let after : suc n ≡ n / d * d + suc (n % d) = let e = div-add-mod' n d in omega arith in
     let rest = mod-lt n h in
     let product = mul-suc d (n / d) in
     let divides = mod-eq-zero_of_dvd d k in
     let full : d ≤ suc (n % d) =
     unless_less (suc (n % d)) d (λ less.
-    let e : suc n % d ≡ suc (n % d) = ap (λ m. m % d) behind ∙ mod-mul-add (n / d) d (suc (n % d)) less in omega arith) in
+    let e : suc n % d ≡ suc (n % d) = ap (λ m. m % d) after ∙ mod-mul-add (n / d) d (suc (n % d)) less in omega arith) in
     omega arith
 
 pub floor_exact : (z : ℤ) (d : ℕ) → 0 < d → d ∣ unsigned_abs z → pos d *ℤ floor z d ≡ z

@@ -1,4 +1,4 @@
--- The order of variables is total, and tells any two apart.
+-- The order of variables is total, and parts any two.
 use Rattle.std.proofs.Common.{◌≡◌, refl, ap, ◌∙◌, pos, arith}
 use Rattle.std.specs.declared.cmp.Ordering.{Ordering}
 use Rattle.std.specs.declared.cmp.Ordering.TheVariants.{Less, Equal, Greater}
@@ -31,7 +31,7 @@ by_parts StartSp StartSp k e = refl
 by_parts (Count m) (Count n) k e = ap Count (let h : pos m ≡ pos n = e in cc)
 by_parts a b k e = absurd (omega arith)
 
--- variables that the order doesn't tell apart are one
+-- variables that the order doesn't part are one
 pub same_var : (a b : Var) → var_cmp a b ≡ Equal → a ≡ b
 same_var a b e = by_parts a b (same_kind a b e) (same_number a b e)
 

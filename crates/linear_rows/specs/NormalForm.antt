@@ -7,7 +7,7 @@ use Rattle.linear_rows.specs.declared.forms.Form.{Form}
 use Rattle.linear_rows.specs.Rows.{Inequality}
 use Rattle.linear_rows.specs.Terms.{IsAscending, HasNoZero}
 
--- Euclid's steps: the second number and the remainder, until that is 0, at most so many times
+-- Euclid's steps: the second number and the remainder, until that is 0, at most a number of times
 abbrev pub euclid : ℕ → ℕ → ℕ → ℕ
 euclid zero a b = a
 euclid (suc steps) a b = if b == 0 then a else euclid steps b (a % b)

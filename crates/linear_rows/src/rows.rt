@@ -12,7 +12,7 @@ use std::marker::Model;
 pub enum Var {
     /// Register 0 to 14, as a signed number.
     Register(u8),
-    /// The word of the stack at so many bytes from the stack pointer at the start, as a signed number.
+    /// The word of the stack at a number of bytes from the stack pointer at the start, as a signed number.
     Word(i32),
     /// A parameter, by its place in the report's list.
     Param(u32),

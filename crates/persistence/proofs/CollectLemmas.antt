@@ -91,7 +91,7 @@ module _ (lines : ℕ → ℕ) (line sets : ℕ) where
       (subst (λ (ys : List ℕ). Collected lines line sets ys (collected line sets ms (lines p))) (sym next) (one_point (take at ps) ms p c))
 
   module _ (step : ℕ → List ℕ) (start : ℕ) where
-    -- so many were met
+    -- this number of them was met
     pub many_met : (at : ℕ) (ps ms : List ℕ) (ways : ℕ) → Searched nat_eq step start at ps → Collected lines line sets (take at ps) ms
         → ways ≤ length ms → AtLeast ways (IsMet step lines start line sets)
     many_met at ps ms ways s c le = (

@@ -7,7 +7,7 @@ use Rattle.graph_search.specs.NodeLists.{holds}
 use Rattle.graph_search.proofs.ListLemmas.{nat_equality, no_more}
 use Rattle.persistence.specs.Younger.{AtLeast, Code, IsYounger}
 
--- where a set of points has fewer other lines of the set than there are ways, so many are not younger
+-- where a set of points has fewer other lines of the set than there are ways, as many are not younger
 met_inside : (c : Code) (within : ℕ → Bool) (line m : ℕ) (us : List ℕ) → AllByRecursion (λ u. (within u ≡ true) × (c.line u ≢ line)) us
     → holds nat_eq m (map c.line us) ≡ true → (u : ℕ) × (within u ≡ true) × (c.line u ≡ m)
 met_inside c within line m [] all h = absurd (false≢true h)

@@ -1,4 +1,4 @@
--- A line stays in its set until so many others of the set were fetched as there are ways.
+-- A line stays in its set until as many others of the set were fetched as there are ways.
 use Rattle.std.proofs.Common.{◌≡◌, ◌≢◌, ℕ, zero, suc, ◌+◌, ◌%◌, ◌<◌, ◌≤◌, ◌⊎◌, inl, inr, Bool, true, false, if◌then◌else◌, eqb, List, []}
 use Rattle.std.proofs.Common.{◌∷◌, ◌++◌, length, take, refl, sym, ap, ◌∙◌, subst, arith}
 use Rattle.std.proofs.Math.Nat.{mod-lt}
@@ -107,7 +107,7 @@ module _ (t : Timing) (sets : List (List ℕ)) (line : ℕ) (some : 0 < t.sets) 
   few_before h m lt = let r = one_less m (recent t.sets line h) (recent_distinct t.sets line h) in omega (arith, lt, r)
 
   -- After a history in which the line was fetched, and since then fewer other lines of its set than there are ways,
-  -- the line is in its set behind these.
+  -- the line is in its set after these.
   pub stays : (h : List ℕ) → holds line h ≡ true → length (recent t.sets line h) < t.ways → Stays t sets line h
   stays [] was lt = absurd (false≢true was)
   stays (m ∷ h) was lt = by_test (stays h) (eqb_tells m line) (eqb_tells (m % t.sets) (line % t.sets))

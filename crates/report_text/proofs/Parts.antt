@@ -57,7 +57,7 @@ text_in_parts r =
     ∙ ap (λ (first : List ℕ). head (first ++ (lines_text r.params (block_lines 0 r.blocks) ++ loops))) (params_alike r.params r.params)
     ∙ ap (λ (second : List ℕ). head (lines_text [] (map ParamLine r.params) ++ (second ++ loops))) (blocks_alike r.params 0 r.blocks)
 
--- pieces put behind one another
+-- pieces put after one another
 pub joined : (o0 o1 o2 o3 o4 o5 o6 o7 o8 o9 o10 p1 p2 p3 p4 p5 p6 p7 p8 p9 p10 : List ℕ) → o0 ≡ [] → o1 ≡ o0 ++ p1 → o2 ≡ o1 ++ p2 → o3 ≡ o2 ++ p3 → o4 ≡ o3 ++ p4 → o5 ≡ o4 ++ p5 → o6 ≡ o5 ++ p6 → o7 ≡ o6 ++ p7 → o8 ≡ o7 ++ p8 → o9 ≡ o8 ++ p9 → o10 ≡ o9 ++ p10 → o10 ≡ p1 ++ (p2 ++ (p3 ++ (p4 ++ (p5 ++ (p6 ++ (p7 ++ (p8 ++ (p9 ++ p10))))))))
 joined o0 o1 o2 o3 o4 o5 o6 o7 o8 o9 o10 p1 p2 p3 p4 p5 p6 p7 p8 p9 p10 e0 e1 e2 e3 e4 e5 e6 e7 e8 e9 e10 = simp (e10, e9, e8, e7, e6, e5, e4, e3, e2, e1, e0, append_assoc)
 

@@ -7,7 +7,7 @@ use Rattle.row_elimination.specs.declared.steps.Equality.{Equality}
 use Rattle.row_elimination.specs.Derivations.{Derivation, combination, combination_fits}
 use Rattle.row_elimination.specs.Steps.{Match, has_negative, is_made, matches_of, matches_fit, combined, with_one, with_each, has_positive, matches_from, matches, with_var, without, candidates, eliminated, step_fits}
 
--- of all matches the rest is left, and so many rows are counted
+-- of all matches the rest is left, and as many rows are counted
 pub record Progress (y : Var) (all rest : List Match) (made count : ℕ) (kept start : List Derivation) : Type 0 where
   pub within : made ≤ 4096
   pub numbered : made + length rest ≡ count + length all

@@ -164,7 +164,7 @@ fn combine_two(
 }
 
 /// Adds the combinations of one row, which has a positive factor of the variable, with those that have a
-/// negative one, and tells how many rows the step has then. None where a number or the rows pass a limit.
+/// negative one, and says how many rows the step has then. None where a number or the rows pass a limit.
 fn combine_one(
     alloc: Global,
     var: &Var,
@@ -196,7 +196,7 @@ fn combine_one(
     Ok(Some(made))
 }
 
-/// Adds all combinations of the rows that mention a variable, where the step has so many rows without it.
+/// Adds all combinations of the rows that mention a variable, where the step has `count` rows without it.
 /// None where a number or the rows pass a limit.
 fn combine_all(
     alloc: Global,

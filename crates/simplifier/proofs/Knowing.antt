@@ -94,6 +94,6 @@ known_agrees bounds values id m e = by (slice_get bounds (id - 1)) e
     by None h = absurd (cc)
     by (Some b) h = known_value values b m h
 
--- bounds that have a value for so many parameters
+-- bounds that have a value for a number of parameters
 pub all_plain : (parameters : ℕ) (bounds : List Bound) → All (λ (b : Bound). All (AtomFits parameters) b.atoms) bounds → All (λ (b : Bound). All IsPlain b.atoms) bounds
 all_plain parameters bounds h = λ k b lt j a inner. let f = h k b lt j a inner in record { constant = f.constant; positive = f.positive }

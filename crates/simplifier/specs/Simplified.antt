@@ -1,4 +1,4 @@
--- What the simplifier tells of constants, node by node.
+-- What the simplifier says of constants, node by node.
 use Rattle.std.specs.Prelude.{◌≡◌, ℕ, ◌<◌, ◌≤◌, List, [], ◌∷◌, length, map, get_or, Option, None, Some, Bool, true, false, ◌&&◌, if◌then◌else◌, nat_lt, ◌^◌, ◌-◌, ◌==◌, slice_get, pos, ◌≤ℤ◌, unsigned_abs}
 use Rattle.wsym_terms.specs.Costs.{cost_of}
 use Rattle.wsym_terms.specs.Extents.{Extent, Finite, Infinite}

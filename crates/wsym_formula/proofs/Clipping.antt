@@ -11,7 +11,7 @@ use Rattle.wsym_terms.proofs.ExtentLaws.{plus_swap, plus_nothing, times_zero, ti
 use Rattle.cost_multiset.specs.CostLists.{CostList, place, sum_first, prefix_sum, from, grouped}
 use Rattle.cost_multiset.proofs.SumLaws.{sum_first_same, sum_first_add, sum_first_constant}
 
--- the same as far as a cost tells
+-- the same as far as a cost says
 abbrev pub Alike : Extent → Extent → Type 0
 Alike a b = cost_of a ≡ cost_of b
 
@@ -70,7 +70,7 @@ sum_of_sums f g (suc n) =
     alike_plus (extent_of (cost_of (plus a b))) (sum_first (λ k. sum_of (f (suc k)) (g (suc k))) n) (plus a b) (plus x y) (alike_clip (plus a b)) (sum_of_sums (λ k. f (suc k)) (λ k. g (suc k)) n)
     ∙ ap cost_of (plus_swap a b x y)
 
--- the first groups of so many places
+-- the first groups of a number of places
 pub sum_of_groups : (f : ℕ → Cost) (by n : ℕ) → Alike (sum_first (grouped (Fin by) f) n) (sum_first f (by * n))
 sum_of_groups f by zero = let e : by * zero ≡ zero = omega arith in ap (λ (k : ℕ). cost_of (sum_first f k)) (sym e)
 sum_of_groups f by (suc n) =

@@ -39,7 +39,7 @@ value_if (Some bound) values = bound_value bound values
 abbrev pub bound_at : List Bound → List ℤ → ℕ → Extent
 bound_at bounds values id = value_if (slice_get bounds (id - 1)) values
 
--- the first n costs of a list cost what n executions of a term do, as far as a cost tells
+-- the first n costs of a list cost what n executions of a term do, as far as a cost says
 pub record Stands (bounds : ℕ → Extent) (costs : CostList) (term : Term) : Type 0 where
   pub cost : (n : ℕ) → cost_of (term_value bounds term n) ≡ cost_of (prefix_sum costs n)
   pub few : places costs.runs ≤ counts_of term

@@ -47,7 +47,7 @@ pub fn from_tree(alloc: Global, tree: &Tree, miss: u64) -> Result<Shared, AllocE
     kept(alloc, &table, root.number)
 }
 
-/// Puts the term of a tree into the table, where so many loops stand round it.
+/// Puts the term of a tree into the table, where `depth` loops stand round it.
 #[cycle(members)]
 fn add_tree(
     table: &mut Shared,
@@ -164,7 +164,7 @@ fn place_alt(table: &mut Shared, parts: Members) -> Result<Placed, AllocError>
     Ok(Placed { number, scope })
 }
 
-/// Whether a scope reaches past a loop round which so many loops stand.
+/// Whether a scope reaches past a loop round which `depth` loops stand.
 fn reaches(scope: u32, depth: u64) -> bool
     ensures { result ≡ nat_le scope depth }
 {

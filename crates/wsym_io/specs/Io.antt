@@ -25,7 +25,7 @@ raised count = min (count + 1) (2 ^ 64 - 1)
 abbrev pub Rose : ℕ → ℕ → Type 0
 Rose before now = min (before + 1) (2 ^ 64 - 1) ≤ now
 
--- what a sink holds once a piece is appended; one that doesn't tell what it holds still doesn't
+-- what a sink holds once a piece is appended; one that doesn't say what it holds still doesn't
 abbrev pub appended : Option (List ℕ) → List ℕ → Option (List ℕ)
 appended None piece = None
 appended (Some bytes) piece = Some (bytes ++ piece)

@@ -17,7 +17,7 @@ fn is_failing(failing: &[u64], call: u128) -> bool
     failing.iter().any(|number| u128::from(*number) == call)
 }
 
-/// A shelf in memory that tells its content, and fails at the calls of chosen numbers and at calls for
+/// A shelf in memory that says its content, and fails at the calls of chosen numbers and at calls for
 /// a name that isn't there.
 ///
 /// It is seen as the record of its files, the numbers of the calls that fail, the calls so far and its

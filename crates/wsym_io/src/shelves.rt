@@ -50,7 +50,7 @@ pub struct ShelfFile {
 
 /// What gives the bytes of a file by its name.
 ///
-/// A shelf may tell its content, a list of names with bytes, and has for each name a count of faults
+/// A shelf may say its content, a list of names with bytes, and has for each name a count of faults
 /// that never falls and stays at 2^64 − 1 once it is there.
 pub trait Shelf {
     ghost content: { Self → Option (List File) };
@@ -59,7 +59,7 @@ pub trait Shelf {
 
     /// The first `most` bytes of the first file of that name, or all of a shorter one.
     ///
-    /// A shelf that tells its content may answer no bytes for a name that isn't there. `Failed` comes
+    /// A shelf that says its content may answer no bytes for a name that isn't there. `Failed` comes
     /// only where the count of faults of this name rose, and `Memory` wherever memory is refused. The
     /// content stays.
     fn read_all(&mut self, alloc: Global, name: &str, most: u64) -> Result<Vec<u8>, ShelfFault>

@@ -42,7 +42,7 @@ impl From<io::Error> for SinkFault {
 
 /// What takes bytes, a piece at a time.
 ///
-/// A sink may tell its contents, the bytes that it took so far, and has a count of faults that never
+/// A sink may say its contents, the bytes that it took so far, and has a count of faults that never
 /// falls and stays at 2^64 − 1 once it is there.
 pub trait Sink {
     ghost contents: { Self → Option (List ℕ) };

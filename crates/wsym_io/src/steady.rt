@@ -9,7 +9,7 @@ use crate::sinks::{Sink, SinkFault};
 use std::alloc::Global;
 use std::marker::Model;
 
-/// A shelf in memory that tells its content and never fails. It is seen as the list of its files.
+/// A shelf in memory that says its content and never fails. It is seen as the list of its files.
 #[derive(Drop)]
 pub struct PlainShelf {
     files: Vec<ShelfFile>,

@@ -34,8 +34,8 @@ pub(crate) fn read_first<R: Read>(
     Ok(bytes)
 }
 
-/// Reads at most `room` bytes by way of the block, puts them behind the bytes that came before, and
-/// answers how many they are. Where the reader tells what it has left, 0 comes only at its end.
+/// Reads at most `room` bytes by way of the block, puts them after the bytes that came before, and
+/// answers how many they are. Where the reader says what it has left, 0 comes only at its end.
 fn read_more<R: Read>(
     reader: &mut R,
     block: &mut [u8],

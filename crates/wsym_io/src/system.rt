@@ -1,6 +1,6 @@
 //! The shelf of the system's files and the sink of standard output.
 //!
-//! What the system's files hold and what standard output shows is trusted: both tell nothing.
+//! What the system's files hold and what standard output shows is trusted: neither says its content.
 
 ghost use Rattle.std.specs.Prelude.{◌≡◌, ℕ, ◌+◌, ◌-◌, ◌^◌, ◌<◌, ◌≤◌, min, None, List, length, take, IfOk, OnOk, OnErr, IsErrOf};
 ghost use Rattle.wsym_io.specs.Io.{raised, Rose, IfTold};
@@ -13,7 +13,7 @@ use std::marker::Model;
 use std::rt::Files;
 use std::{fs, io};
 
-/// The system's files, by their paths. It tells no content, and is seen as its count of faults.
+/// The system's files, by their paths. It says no content, and is seen as its count of faults.
 #[derive(Drop)]
 pub struct FileShelf<'a, R: Files> {
     rt: &'a R,
@@ -68,7 +68,7 @@ fn read_file<R: Files>(rt: &R, alloc: Global, name: &str, most: u64) -> Result<V
     read_first(&mut file, alloc, most)
 }
 
-/// Standard output. It tells no contents, and is seen as its count of faults.
+/// Standard output. It says no contents, and is seen as its count of faults.
 #[derive(Drop)]
 pub struct StdoutSink<'a, R: Print> {
     rt: &'a R,

@@ -40,7 +40,7 @@ abbrev pub exact_cost : Extent → Cost
 exact_cost (Finite n) = Fin n
 exact_cost Infinite = Unbounded
 
--- a factor of one of so many parameters, of a magnitude of at most 2 ^ 90
+-- a factor of one of the first n parameters, of a magnitude of at most 2 ^ 90
 pub record CoefFits (parameters : ℕ) (coef : Coef) : Type 0 where
   pub known : coef.param < parameters
   pub factor : unsigned_abs coef.factor ≤ 2 ^ 90

@@ -24,7 +24,7 @@ is_in_range Unbounded = true
 abbrev pub sum_of : Cost → Cost → Cost
 sum_of a b = cost_of (plus (extent_of a) (extent_of b))
 
--- so many times a cost; 0 times is 0 also where no bound is known
+-- a number of times a cost; 0 times is 0 also where no bound is known
 abbrev pub times_of : ℕ → Cost → Cost
 times_of n a = cost_of (times n (extent_of a))
 

@@ -30,7 +30,7 @@ status_of_insn (Some insn) = cond (ends_well insn) (Some 0) (cond (goes_on insn)
 abbrev status_at : ImageValue → ℕ → Option ℕ
 status_at image a = cond (is_code image a) (status_of_insn (instruction_at image a)) (Some 32)
 
--- the status of a walk of at most so many instructions
+-- the status of a walk of at most a number of instructions
 abbrev walk_status : ImageValue → ℕ → ℕ → ℕ
 walk_status image zero a = 38
 walk_status image (suc most) a = unwrap_or (status_at image a) (walk_status image most (next_address a))
