@@ -28,7 +28,7 @@ if_ok (Err e) P Q f w = w
 
 module _ {A : Type 0} (ways : A → List (Way A)) (start : A) (lt : A → A → Type 0) (ps : List A) (table : List Targets)
     (rows : List (List ℕ)) (flag : ℕ → Bool) (only back : List (Option ℕ)) (bs : List (Chain ℕ)) (entry : ℕ)
-    (ahead : AreTargets ways start ps table) (ascending : Ascending lt ps) (back : AreSources (step_in table) (before rows))
+    (ahead : AreTargets ways start ps table) (ascending : Ascending lt ps) (sources : AreSources (step_in table) (before rows))
     (reached : (i : ℕ) → i ≤ length ps → (flag i ≡ true) ↔ Reached (steps_to nat_eq (before rows)) (length ps) i)
     (first : entry < length ps) (entry_is : get_or ps entry start ≡ start)
     (forward : IsTableOf (IsLink (step_in table) (before rows) flag (length ps) entry) (length ps) only)
@@ -38,7 +38,7 @@ module _ {A : Type 0} (ways : A → List (Way A)) (start : A) (lt : A → A → 
   numbers_in = targets_are_numbers ways start ps table ahead
 
   the_rows : AreRows ways start ps rows
-  the_rows = numbers_rows ways start ps (step_in table) numbers_in rows back
+  the_rows = numbers_rows ways start ps (step_in table) numbers_in rows sources
 
   pub living : AreLiveFlags ways start ps flag
   living =
@@ -54,19 +54,19 @@ module _ {A : Type 0} (ways : A → List (Way A)) (start : A) (lt : A → A → 
   numbered =
       record {
         live = λ i l f. (living.live i l).0 f;
-        all = λ p l. flagged ways start ps (step_in table) numbers_in (before rows) back flag living entry first entry_is p l;
+        all = λ p l. flagged ways start ps (step_in table) numbers_in (before rows) sources flag living entry first entry_is p l;
         ascending = ascending;
         long = forward.long;
         only_way = λ i j f. link_only_way ways start ps (step_in table) numbers_in
-            (before rows) back flag living entry first entry_is i j (forward.only i j f);
+            (before rows) sources flag living entry first entry_is i j (forward.only i j f);
         follows = λ i j l m o. forward.all i j l (only_way_link ways start ps (step_in table) numbers_in
-            (before rows) back flag living entry first entry_is i j l m o);
+            (before rows) sources flag living entry first entry_is i j l m o);
       }
 
   opposite : AreOpposite only back
   opposite =
       opposite_tables (IsLink (step_in table) (before rows) flag (length ps) entry) (length ps) only back
-      (λ p q k. (link_below ways start ps (step_in table) numbers_in (before rows) back flag living entry first entry_is p q k, k.below))
+      (λ p q k. (link_below ways start ps (step_in table) numbers_in (before rows) sources flag living entry first entry_is p q k, k.below))
       forward backward
 
   pub tables_blocks : AreBlocks ways start (map (mapped (λ i. get_or ps i start)) bs)
