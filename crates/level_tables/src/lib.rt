@@ -7,6 +7,7 @@ mod laws;
 mod links;
 mod paths;
 mod places;
+mod rows;
 mod trees;
 
 pub use blocks::blocks_of_loops;
@@ -15,4 +16,5 @@ pub use laws::places_are_of_loops;
 pub use links::{EdgeRows, ahead_of, back_of};
 pub use paths::{edges_on_paths, rows_between};
 pub use places::LevelPlaces;
+pub use rows::{levels_of, rows_of_level};
 pub use trees::tree;
