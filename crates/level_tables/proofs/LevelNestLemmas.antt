@@ -174,7 +174,7 @@ module _ (flow : Flow) (bounded : IsBounded flow) (reach : (b : ℕ) → b < flo
 
   -- ---- edges rise
 
-  abbrev rank_of : ℕ → ℕ
+  abbrev pub rank_of : ℕ → ℕ
   rank_of = level_rank (loops_of flow n) is.1 (flow.count + 1) (flow.count + 2) (flow.count + 1)
 
   begins : within 0 flow.entry ≡ true
@@ -369,3 +369,14 @@ module _ (flow : Flow) (bounded : IsBounded flow) (reach : (b : ℕ) → b < flo
       levels_tasks (loops_of flow n) (edge flow) within flow.entry (depth_of n) (λ d. 16 - depth_of n d)
       (nest_loops flow bounded reach n is) is.1 (nest_order flow bounded reach n is) (flow.count + 1) (flow.count + 2) (flow.count + 1)
       (nest_ends flow bounded reach n is) nest are exact begins headers_in
+
+  -- the tables that the code hands on
+  pub tables_at : (count : ℕ) → count ≡ flow.count → (ls : List LevelRows) → ls ≡ rows
+      → AreTables count (count + 1) (count + 2) n ls uses nest
+  tables_at count e ls s =
+      subst (λ xs. AreTables count (count + 1) (count + 2) n xs uses nest) (sym s)
+      (subst (λ k. AreTables k (k + 1) (k + 2) n rows uses nest) (sym e) are_tables)
+
+-- the numbers of the ends have 32 bits
+pub fits_in : (a b : ℕ) → a ≡ b → a < 4294967293 → b + 2 < 2 ^ 32
+fits_in a b e l = omega (arith, e, l)
