@@ -1,11 +1,10 @@
 -- The rows of what lies on paths between two nodes.
-use Rattle.std.proofs.Common.{◌≡◌, ◌≢◌, ℕ, ◌<◌, ◌⊎◌, inl, inr, Bool, true, false, List, [], ◌∷◌, nat_eq, ◌||◌, refl, sym, ap, subst, ◌∙◌}
+use Rattle.std.proofs.Common.{◌≡◌, ◌≢◌, ℕ, ◌<◌, ◌⊎◌, inl, inr, Bool, true, false, List, [], ◌∷◌, nat_eq, ◌||◌, refl, sym, ap, ◌∙◌}
 use Rattle.std.specs.Prelude.{◌↔◌, ◌&&◌, if◌then◌else◌}
 use Rattle.std.specs.List.{AllByRecursion}
-use Rattle.std.proofs.lemmas.Bool.{or_cases, or_left, or_right, and_parts, and_from, eqb-true, eq-eqb, ne_eqb, false≢true}
+use Rattle.std.proofs.lemmas.Bool.{or_cases, or_left, or_right, and_parts, and_from, eqb-true, eq-eqb, false≢true}
 use Rattle.graph_search.specs.NodeLists.{holds}
 use Rattle.graph_search.specs.Orders.{Rising}
-use Rattle.tree_law.specs.LevelEdges.{Reaches}
 use Rattle.tree_law.specs.Ways.{IsIn}
 use Rattle.node_elimination.specs.GivenLevels.{edges_of}
 use Rattle.node_elimination.specs.LevelStates.{Rises}

@@ -1,11 +1,10 @@
 -- The edges that the code lists are those of the level.
-use Rattle.std.proofs.Common.{◌≡◌, ◌≢◌, ℕ, ◌+◌, ◌<◌, ◌⊎◌, inl, inr, Bool, true, false, List, [], ◌∷◌, ◌++◌, nat_eq, ◌||◌, refl, sym, ap, subst, ◌∙◌}
-use Rattle.std.specs.Prelude.{◌&&◌, ◌==◌, if◌then◌else◌, nat_lt, Option, Some, None}
+use Rattle.std.proofs.Common.{◌≡◌, ◌≢◌, ℕ, ◌+◌, ◌<◌, ◌⊎◌, inl, inr, Bool, true, false, List, [], ◌∷◌, ◌++◌, nat_eq, refl, sym, ap, subst, ◌∙◌}
+use Rattle.std.specs.Prelude.{◌==◌, if◌then◌else◌, nat_lt, Option, Some, None}
 use Rattle.std.specs.List.{list_any}
 use Rattle.std.proofs.lemmas.Bool.{or_cases, or_left, or_right, and_parts, and_from, eqb-true, eq-eqb, ne_eqb, false≢true, lt-ltb}
 use Rattle.graph_search.specs.Flows.{Flow, edge}
 use Rattle.graph_search.specs.NodeLists.{holds}
-use Rattle.interval_loops.specs.declared.nest.LoopNest.{LoopNest}
 use Rattle.interval_loops.specs.Loops.{node_in}
 use Rattle.interval_loops.specs.Nests.{around_of, header_of, loops_of}
 use Rattle.interval_loops.specs.Rounds.{within_by}
@@ -97,8 +96,12 @@ module _ (s : LevelPlaces) where
       by_tests true a true b x c f = inl (a, eqb-true v H b, sym (some_same s.close q f))
       by_tests true a false b true c f = absurd (none_some q f)
       by_tests true a false b false c f =
-          inr (inl (a, (λ z. false≢true (sym b ∙ eq-eqb v H z)), (λ z. false≢true (sym c ∙ eq-eqb from (N v) z)),
-          sym (some_same (N v) q f)))
+          inr (inl (
+            a,
+            (λ z. false≢true (sym b ∙ eq-eqb v H z)),
+            (λ z. false≢true (sym c ∙ eq-eqb from (N v) z)),
+            sym (some_same (N v) q f),
+          ))
       by_tests false a h b x c f = inr (inr (a, sym (some_same s.leave q f)))
 
   target_close : (from v : ℕ) → W v ≡ true → v ≡ H → target_by s from v ≡ Some s.close
@@ -229,8 +232,12 @@ module _ (s : LevelPlaces) where
           → node u ≢ node v → edges_of es (node u) (node v) ≡ true
       goes u v i j e h apart =
           subst (λ x. edges_of es (node u) x ≡ true) (node_is v)
-          (led u (N v) i (v, listed u v e, target_node (N u) v (in_is v ∙ j) (λ z. h (z ∙ head_is))
-          (λ z. apart (sym (node_is u) ∙ (z ∙ node_is v)))))
+          (led u (N v) i (
+            v,
+            listed u v e,
+            target_node (N u) v (in_is v ∙ j) (λ z. h (z ∙ head_is))
+                (λ z. apart (sym (node_is u) ∙ (z ∙ node_is v))),
+          ))
 
       leaves : (u : ℕ) → inside u ≡ true → (flow.returns u ≡ true) ⊎ ((v : ℕ) × (edge flow u v ≡ true) × (inside v ≡ false))
           → edges_of es (node u) (flow.count + 2) ≡ true

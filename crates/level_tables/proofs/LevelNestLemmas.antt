@@ -1,15 +1,15 @@
 -- The nest of levels that rows describe.
-use Rattle.std.proofs.Common.{◌≡◌, ◌≢◌, ℕ, zero, suc, ◌+◌, ◌-◌, ◌<◌, ◌≤◌, ◌^◌, ◌⊎◌, inl, inr, Bool, true, false, List, [], ◌∷◌, length, nat_eq}
+use Rattle.std.proofs.Common.{◌≡◌, ◌≢◌, ℕ, zero, suc, ◌+◌, ◌-◌, ◌<◌, ◌≤◌, ◌^◌, ◌⊎◌, inl, inr, Bool, true, List, [], ◌∷◌, length, nat_eq}
 use Rattle.std.proofs.Common.{refl, sym, ap, subst, ◌∙◌, arith}
-use Rattle.std.specs.Prelude.{if◌then◌else◌, nat_lt, Option, Some, None, slice_get}
-use Rattle.std.proofs.lemmas.Bool.{eq-eqb, false≢true, lt-ltb, ltb-true, ne_eqb}
+use Rattle.std.specs.Prelude.{if◌then◌else◌, Option, Some, None, slice_get}
+use Rattle.std.proofs.lemmas.Bool.{eq-eqb, false≢true, lt-ltb, ne_eqb}
 use Rattle.wsym_terms.specs.Trees.{greatest_scope}
 use Rattle.wsym_terms.specs.declared.trees.BlockUses.{BlockUses}
 use Rattle.wsym_terms.specs.declared.trees.Use.{Use}
 use Rattle.graph_search.specs.Flows.{Flow, IsBounded, edge, leads}
 use Rattle.graph_search.specs.Walks.{Reached}
 use Rattle.interval_loops.specs.declared.nest.LoopNest.{LoopNest}
-use Rattle.interval_loops.specs.Loops.{child_in, node_in}
+use Rattle.interval_loops.specs.Loops.{child_in}
 use Rattle.interval_loops.specs.Nests.{IsNestOf, around_of, depth_of, header_of, inner_of, loops_of, parent_of}
 use Rattle.interval_loops.specs.Rounds.{within_by}
 use Rattle.tree_law.specs.LevelEdges.{AreLevels, EdgesOf, IsLevelEdge, Reaches, level_rank}
@@ -203,9 +203,12 @@ module _ (flow : Flow) (bounded : IsBounded flow) (reach : (b : ℕ) → b < flo
   listed : (c t u : ℕ) → IsEnd (level c) t → Reaches (edged c) (header_of flow n c) u → Reaches (edged c) u t → IsIn u ((level c).nodes t)
   listed c t u end from to =
       let k = at_end c t end in
-      subst (IsIn u) (sym k.nodes) ((k.paths.nodes u).1 (inr from, inr to,
-      (λ e. rise_apart (header_of flow n c) u (path_up c from.0 (header_of flow n c) u from.1) (sym e)),
-      rise_apart u t (path_up c to.0 u t to.1)))
+      subst (IsIn u) (sym k.nodes) ((k.paths.nodes u).1 (
+        inr from,
+        inr to,
+        (λ e. rise_apart (header_of flow n c) u (path_up c from.0 (header_of flow n c) u from.1) (sym e)),
+        rise_apart u t (path_up c to.0 u t to.1),
+      ))
 
   passed : (c t u : ℕ) → IsEnd (level c) t → IsIn u ((level c).nodes t)
       → Reaches (edged c) (header_of flow n c) u × Reaches (edged c) u t

@@ -2,7 +2,7 @@
 use Rattle.std.specs.Prelude.{◌≡◌, ◌≢◌, ◌↔◌, ℕ, ◌+◌, ◌⊎◌, Bool, true, false, List, Some, None, slice_get}
 use Rattle.graph_search.specs.Flows.{Flow, edge}
 use Rattle.interval_loops.specs.declared.nest.LoopNest.{LoopNest}
-use Rattle.interval_loops.specs.Loops.{Loops, node_in}
+use Rattle.interval_loops.specs.Loops.{node_in}
 use Rattle.interval_loops.specs.Nests.{around_of, header_of, loops_of}
 use Rattle.interval_loops.specs.Rounds.{within_by}
 use Rattle.tree_law.specs.LevelEdges.{IsLevelEdge, Reaches}

@@ -76,11 +76,7 @@ fn backward(alloc: Global, edges: &[(u32, u32)]) -> Result<EdgeRows, AllocError>
 }
 
 /// The nodes that a node reaches over edges, itself among them.
-pub fn ahead_of(
-    alloc: Global,
-    edges: &[(u32, u32)],
-    start: u32,
-) -> Result<NodeList, AllocError>
+pub fn ahead_of(alloc: Global, edges: &[(u32, u32)], start: u32) -> Result<NodeList, AllocError>
     ensures { IfOk result (λ xs. (x : ℕ) → (holds nat_eq x xs ≡ true) ↔ Onto (edges_of edges.now) start x) }
 {
     let rows = forward(alloc, edges)?;

@@ -35,23 +35,9 @@ fn rows_over(
     let header = places.header();
     let ahead = ahead_of(alloc, edges, header)?;
     let closing = back_of(alloc, edges, places.close)?;
-    let turns = rows_between(
-        alloc,
-        edges,
-        &ahead,
-        &closing,
-        header,
-        places.close,
-    )?;
+    let turns = rows_between(alloc, edges, &ahead, &closing, header, places.close)?;
     let leaving = back_of(alloc, edges, places.leave)?;
-    let leaves = rows_between(
-        alloc,
-        edges,
-        &ahead,
-        &leaving,
-        header,
-        places.leave,
-    )?;
+    let leaves = rows_between(alloc, edges, &ahead, &leaving, header, places.leave)?;
     Ok(LevelRows { turns, leaves })
 }
 

@@ -1,6 +1,4 @@
 use Rattle.std.proofs.Common.{◌∙◌, sym}
-use Rattle.std.specs.Prelude.{◌≡◌, ℕ}
-use Rattle.level_tables.specs.PathEdges.{leads_inside}
 use Rattle.level_tables.proofs.BetweenLemmas.{are_paths, inside_same}
 use Rattle.level_tables.proofs.paths.rows_between.Goals as goal
 

@@ -1,4 +1,4 @@
-use Rattle.std.proofs.Common.{◌≡◌, ◌+◌, ◌<◌, ℕ, length, sym, ap, ◌∙◌, subst}
+use Rattle.std.proofs.Common.{◌+◌, ◌<◌, ℕ, length, sym, ap, subst}
 use Rattle.level_tables.proofs.LoopNumberLemmas.{level_blocks, numbers_low, size_some}
 use Rattle.level_tables.proofs.rows.blocks_of_levels.Goals as goal
 

@@ -1,4 +1,4 @@
-use Rattle.std.proofs.Common.{◌≡◌, ◌+◌, ◌<◌, ◌≤◌, ℕ, length, rules, arith, sym, ap, ◌∙◌}
+use Rattle.std.proofs.Common.{◌≡◌, ◌+◌, ℕ, length, arith, ap}
 use Rattle.level_tables.proofs.LoopNumberLemmas.{are_levels, level_added}
 use Rattle.level_tables.proofs.rows.levels_of.Goals as goal
 
@@ -7,7 +7,7 @@ loop-row-preserved g c =
     let i = c.loop-row.invariant in
     let m = level_added (g.G.FlowGraph.flow c.args.graph.now) c.args.nest.now c.loop-row.levels.items c.add_level.new.levels.items
     c.loop-row.level c.loop-row.row-index i.place i.size c.in_ok-add_level.ensures i.some in
-    record { place = ap (λ (k : ℕ). k + 1) i.place; size = m.0; some = m.1; }
+    record { place = ap (λ (k : ℕ). k + 1) i.place; size = m.0; some = m.1 }
 
 pub returns : goal.returns
 returns g c =

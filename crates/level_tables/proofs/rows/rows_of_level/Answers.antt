@@ -1,4 +1,4 @@
-use Rattle.std.proofs.Common.{◌∙◌, sym}
+use Rattle.std.proofs.Common.{◌∙◌}
 use Rattle.level_tables.proofs.LevelRowLemmas.{is_level}
 use Rattle.level_tables.proofs.rows.rows_of_level.Goals as goal
 

@@ -1,6 +1,5 @@
-use Rattle.std.specs.Prelude.{◌-◌, ℕ}
+use Rattle.std.specs.Prelude.{◌-◌}
 use Rattle.interval_loops.specs.Nests.{depth_of}
-use Rattle.tree_law.specs.LevelEdges.{level_rank}
 use Rattle.node_elimination.proofs.FinishedLevelLemmas.{if_ok_more}
 use Rattle.level_tables.proofs.LevelNestLemmas.{are_tasks, fits_in, is_levels, nest, rank_of, tables_at}
 use Rattle.level_tables.proofs.trees.tree.Goals as goal
@@ -37,9 +36,15 @@ returns-clause-exact g c =
       tables = tables_at flow r.bounded r.reached n r.nest c.args.uses.now r.uses c.in-Ok.levels.items c.in-Ok.ensures fits
           c.count-count.result c.count-count.ensures c.as_slice.result.now c.as_slice.ensures.value;
       tasks = are_tasks flow r.bounded r.reached n r.nest c.args.uses.now r.uses c.in-Ok.levels.items c.in-Ok.ensures fits;
-    }) in
-    ((nest flow r.bounded r.reached n r.nest c.args.uses.now r.uses c.in-Ok.levels.items c.in-Ok.ensures fits,
-    is_levels flow r.bounded r.reached n r.nest c.args.uses.now r.uses c.in-Ok.levels.items c.in-Ok.ensures fits, k.0), k.1, k.2)))
+    }) in (
+      (
+        nest flow r.bounded r.reached n r.nest c.args.uses.now r.uses c.in-Ok.levels.items c.in-Ok.ensures fits,
+        is_levels flow r.bounded r.reached n r.nest c.args.uses.now r.uses c.in-Ok.levels.items c.in-Ok.ensures fits,
+        k.0,
+      ),
+      k.1,
+      k.2,
+    )))
     c.function_tree.result c.function_tree.ensures.exact
 
 pub returns-clause-large : goal.returns-clause-large
