@@ -1,4 +1,5 @@
-//! Reads lists of words, one a line of input, and prints each line with what the words ask for, or that they are wrong.
+//! Reads lists of words, one a line of input, and prints each line with what the words ask for, or that they are
+//! wrong.
 //!
 //! ```text
 //! words WORD..                   words with one space between two; without a space after `words` there is none
@@ -9,7 +10,8 @@
 #![tactic(auto)]
 
 use command_words::{
-    Command, FunctionWord, Setup, Task, TimingWord, numbers_are_decimal, read_command,
+    AnalysisSetup, Command, FunctionWord, Setup, Task, TimingWord, Valuation, numbers_are_decimal,
+    read_command,
 };
 use std::alloc::{AllocError, Global};
 
@@ -38,18 +40,39 @@ fn push_setup(out: &mut String, setup: &Setup) -> Result<(), AllocError> {
     Ok(())
 }
 
+fn push_analysis(out: &mut String, setup: &AnalysisSetup) -> Result<(), AllocError> {
+    for each in setup.params.as_slice() {
+        let name = each.name.as_str();
+        write!(out, " {name} r{} {} to {}", each.register, each.low, each.high)?;
+    }
+    write!(out, " stack {}", setup.stack)
+}
+
+fn push_valuation(out: &mut String, valuation: &Valuation) -> Result<(), AllocError> {
+    write!(out, "file {}", valuation.report.as_str())?;
+    for each in valuation.values.as_slice() {
+        write!(out, " {}={}", each.name.as_str(), each.value)?;
+    }
+    Ok(())
+}
+
 /// What a command is, in words.
 fn shown(alloc: Global, command: &Command) -> Result<String, AllocError> {
     let mut out = String::new(alloc);
     match command {
-        Command::Analyse(task) => {
+        Command::Analyse(task, setup) => {
             out.push_str("analyse ")?;
             push_task(&mut out, task)?;
+            push_analysis(&mut out, setup)?;
         }
         Command::Run(task, setup) => {
             out.push_str("run ")?;
             push_task(&mut out, task)?;
             push_setup(&mut out, setup)?;
+        }
+        Command::Eval(valuation) => {
+            out.push_str("eval ")?;
+            push_valuation(&mut out, valuation)?;
         }
     }
     Ok(out)

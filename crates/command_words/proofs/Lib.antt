@@ -1,3 +1,4 @@
 mod Digits
+mod Marks
 mod Parameters
 mod Spelling

@@ -1,51 +1,22 @@
--- The words behind the places of a run: the registers' values, the stack and the number of steps.
-use Rattle.std.specs.Prelude.{◌≡◌, ℕ, ◌≤◌, ◌==◌, ◌%◌, ◌&&◌, ◌||◌, nat_le, Bool, false, if◌then◌else◌, IfSome, is_some, unwrap_or, Option, Some, None, option_map, option_and_then, List, [], ◌∷◌, ◌++◌, length, codes}
+-- The words after the places of a run: the registers' values, the stack and the number of steps.
+use Rattle.std.specs.Prelude.{◌≡◌, ℕ, ◌≤◌, ◌==◌, ◌%◌, ◌||◌, if◌then◌else◌, IfSome, is_some, unwrap_or}
+use Rattle.std.specs.Prelude.{Option, Some, None, option_map, option_and_then, List, [], ◌∷◌, ◌++◌, codes}
 use Rattle.std.specs.Str.{bytes_eq}
-use Rattle.std.specs.List.{list_any, list_all, before_first, after_first}
+use Rattle.std.specs.List.{list_any}
 use Rattle.arm_machine.specs.declared.start.RegisterValue.{RegisterValue}
 use Rattle.arm_machine.specs.Starting.{AreParameters}
 use Rattle.command_words.specs.Numerals.{address_of, number_within, signed_number}
-use Rattle.command_words.specs.Places.{has_equals_sign, is_equals_sign}
+use Rattle.command_words.specs.Parts.{has_equals_sign, is_name, key_of, register_of, stack_of, text_of}
 use Rattle.command_words.specs.declared.options.Given.{Given}
 use Rattle.command_words.specs.declared.options.Setup.{Setup}
 
--- what stands before the first `=` of a word, and what stands behind it
-abbrev pub key_of : List ℕ → List ℕ
-key_of = before_first is_equals_sign
-
-abbrev pub text_of : List ℕ → List ℕ
-text_of = after_first is_equals_sign
-
-abbrev pub is_letter : ℕ → Bool
-is_letter b = (nat_le 65 b && nat_le b 90) || (nat_le 97 b && nat_le b 122)
-
--- a letter, a digit or `_`
-abbrev pub is_name_byte : ℕ → Bool
-is_name_byte b = is_letter b || (nat_le 48 b && nat_le b 57) || (b == 95)
-
--- an ASCII letter followed by at most 15 letters, digits or `_`
-abbrev pub is_name : List ℕ → Bool
-is_name [] = false
-is_name (first ∷ others) = is_letter first && nat_le (length others) 15 && list_all is_name_byte others
-
--- `r0` to `r12`
-abbrev pub register_of : List ℕ → Option ℕ
-register_of [] = None
-register_of (first ∷ digits) = if first == 114 then number_within 0 12 digits else None
+abbrev pub value_in : List ℕ → ℕ → Option RegisterValue
+value_in text k = option_map (λ v. record { register = k; value = v }) (signed_number text)
 
 -- rK=VALUE
 abbrev pub register_value_of : List ℕ → Option RegisterValue
 register_value_of text =
-    if has_equals_sign text
-    then option_and_then (λ k. option_map (λ v. record { register = k; value = v }) (signed_number (text_of text))) (register_of (key_of text))
-    else None
-
--- a multiple of 4 up to 2^20
-abbrev pub if_words : ℕ → Option ℕ
-if_words n = if n % 4 == 0 then Some n else None
-
-abbrev pub stack_of : List ℕ → Option ℕ
-stack_of text = option_and_then if_words (number_within 0 1048576 text)
+    if has_equals_sign text then option_and_then (value_in (text_of text)) (register_of (key_of text)) else None
 
 abbrev pub nothing_given : Given
 nothing_given = record { names = []; values = []; sp = None; stack = None; steps = None }
@@ -53,7 +24,8 @@ nothing_given = record { names = []; values = []; sp = None; stack = None; steps
 -- a parameter's value, for a name and a register that have none yet
 abbrev pub given_value : Given → List ℕ → RegisterValue → Option Given
 given_value given name p =
-    if list_any (λ other. bytes_eq other name) given.names || list_any (λ q. q.register == p.register) given.values then None
+    if list_any (λ other. bytes_eq other name) given.names || list_any (λ q. q.register == p.register) given.values
+    then None
     else Some (record given { names = given.names ++ name ∷ []; values = given.values ++ p ∷ [] })
 
 abbrev pub after_value : Given → List ℕ → List ℕ → Option Given
@@ -71,7 +43,8 @@ after_stack given text =
 
 abbrev pub after_steps : Given → List ℕ → Option Given
 after_steps given text =
-    if is_some given.steps then None else option_map (λ n. record given { steps = Some n }) (number_within 1 1000000000000 text)
+    if is_some given.steps then None
+    else option_map (λ n. record given { steps = Some n }) (number_within 1 1000000000000 text)
 
 -- the three options come before the names of parameters
 abbrev pub after_key : Given → List ℕ → List ℕ → Option Given

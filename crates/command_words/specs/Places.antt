@@ -1,20 +1,13 @@
--- The words that stand directly behind a command: what is analysed or run.
-use Rattle.std.specs.Prelude.{ℕ, ◌==◌, ◌&&◌, not, Bool, if◌then◌else◌, Option, Some, None, option_map, List, [], ◌∷◌, codes}
+-- The words that stand directly after a command: what is analysed or run.
+use Rattle.std.specs.Prelude.{ℕ, ◌&&◌, not, if◌then◌else◌, Option, Some, None, option_map, List, [], ◌∷◌, codes}
 use Rattle.std.specs.Str.{bytes_eq}
-use Rattle.std.specs.List.{list_any}
 use Rattle.command_words.specs.Numerals.{address_of}
+use Rattle.command_words.specs.Parts.{has_equals_sign}
 use Rattle.command_words.specs.declared.places.Task.{Task}
 use Rattle.command_words.specs.declared.places.TimingWord.{TimingWord}
 use Rattle.command_words.specs.declared.places.TimingWord.TheVariants as timing
 use Rattle.command_words.specs.declared.places.FunctionWord.{FunctionWord}
 use Rattle.command_words.specs.declared.places.FunctionWord.TheVariants as function
-
--- `=`
-abbrev pub is_equals_sign : ℕ → Bool
-is_equals_sign b = b == 61
-
-abbrev pub has_equals_sign : List ℕ → Bool
-has_equals_sign = list_any is_equals_sign
 
 -- the built-in table, or a file's name
 abbrev pub timing_of : List ℕ → TimingWord
@@ -35,12 +28,13 @@ task_of elf timing_word function_word =
     then Some (record { elf = elf; timing = timing_of timing_word; function = function_of function_word })
     else None
 
--- the words of the places, and those behind them
+-- the words of the places, and those after them
 abbrev pub places_of : List (List ℕ) → Option (Task × List (List ℕ))
 places_of [] = None
 places_of (elf ∷ []) = None
 places_of (elf ∷ timing_word ∷ []) = None
-places_of (elf ∷ timing_word ∷ function_word ∷ words) = option_map (λ task. (task, words)) (task_of elf timing_word function_word)
+places_of (elf ∷ timing_word ∷ function_word ∷ words) =
+    option_map (λ task. (task, words)) (task_of elf timing_word function_word)
 
 -- the files that a task reads, in the order of the words
 abbrev pub timing_files : TimingWord → List (List ℕ)

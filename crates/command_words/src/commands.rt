@@ -1,24 +1,28 @@
 //! Commands and their words.
 
 ghost use Rattle.std.specs.Prelude.{◌≡◌, IfOk, IfSome, map, string_bytes};
-ghost use Rattle.command_words.specs.Commands.{analyse_of, command_of, run_of, HasSetup};
+ghost use Rattle.command_words.specs.Commands.{analyse_of, command_of, eval_of, run_of, HasSetup};
 
+use crate::analyses::{AnalysisSetup, read_analysis_setup};
 use crate::options::{Setup, read_setup};
 use crate::places::{Places, Task, read_places};
+use crate::valuations::{Valuation, read_valuation};
 use std::alloc::{AllocError, Global};
 
 /// What the words ask for.
 #[derive(Drop)]
 pub enum Command {
-    /// The report of a function.
-    Analyse(Task),
+    /// The report of a function, for parameters in their ranges and a size of the stack.
+    Analyse(Task, AnalysisSetup),
     /// A run of a function on the reference machine.
     Run(Task, Setup),
+    /// The value of a report's formula at values of its parameters.
+    Eval(Valuation),
 }
 
 /// What the words of the command line, without the program's name, ask for: `None` exactly where they are wrong.
-/// The values of a run are registers 0 to 12, each at most once, its stack has at most 1,048,576 bytes, and it
-/// may make 1 to 1,000,000,000,000 steps.
+/// The parameters of an analysis and the values of a run are of registers 0 to 12, each at most once, a stack has at
+/// most 1,048,576 bytes, and a run may make 1 to 1,000,000,000,000 steps.
 ///
 /// # Errors
 ///
@@ -34,12 +38,13 @@ pub fn read_command(alloc: Global, words: &[String]) -> Result<Option<Command>, 
         read_analysis(alloc, words)
     } else if command.as_str() == "run" {
         read_run(alloc, words)
+    } else if command.as_str() == "eval" {
+        read_eval(alloc, words)
     } else {
         Ok(None)
     }
 }
 
-/// An analysis has no options.
 fn read_analysis(alloc: Global, words: &[String]) -> Result<Option<Command>, AllocError>
     ensures value { IfOk result (λ found. found ≡ analyse_of (map string_bytes words.now)) }
     ensures setup { IfOk result (λ found. IfSome found HasSetup) }
@@ -47,9 +52,9 @@ fn read_analysis(alloc: Global, words: &[String]) -> Result<Option<Command>, All
     let Some(Places { task, options }) = read_places(alloc, words)? else {
         return Ok(None);
     };
-    match options.split_first() {
-        None => Ok(Some(Command::Analyse(task))),
-        Some(_) => Ok(None),
+    match read_analysis_setup(alloc, options)? {
+        Some(setup) => Ok(Some(Command::Analyse(task, setup))),
+        None => Ok(None),
     }
 }
 
@@ -62,6 +67,16 @@ fn read_run(alloc: Global, words: &[String]) -> Result<Option<Command>, AllocErr
     };
     match read_setup(alloc, options)? {
         Some(setup) => Ok(Some(Command::Run(task, setup))),
+        None => Ok(None),
+    }
+}
+
+fn read_eval(alloc: Global, words: &[String]) -> Result<Option<Command>, AllocError>
+    ensures value { IfOk result (λ found. found ≡ eval_of (map string_bytes words.now)) }
+    ensures setup { IfOk result (λ found. IfSome found HasSetup) }
+{
+    match read_valuation(alloc, words)? {
+        Some(valuation) => Ok(Some(Command::Eval(valuation))),
         None => Ok(None),
     }
 }

@@ -1,7 +1,10 @@
 //! Numbers in words.
 
-ghost use Rattle.std.specs.Prelude.{◌≡◌, ◌<◌, ◌≤◌, ◌^◌, Some, None, IfSome, length, option_and_then};
-ghost use Rattle.command_words.specs.Numerals.{address_of, decimal_after, decimal_digit, hex_after, hex_digit, is_plain, number_within, signed_number, within};
+ghost use Rattle.std.specs.Prelude.{◌≡◌, ◌<◌, ◌≤◌, ◌^◌, pos, negsuc};
+ghost use Rattle.std.specs.Prelude.{◌≤ℤ◌, ◌-ℤ◌, Some, None, IfSome, length, option_and_then};
+ghost use Rattle.command_words.specs.Numerals.{address_of, decimal_after, decimal_digit, hex_after, hex_digit};
+ghost use Rattle.command_words.specs.Numerals.{is_plain, number_within, signed_number, signed_within, wide_number};
+ghost use Rattle.command_words.specs.Numerals.{within};
 
 /// The decimal number without leading zeros that digits spell, if it is from `least` to `most`.
 pub(crate) fn number(digits: &[u8], least: u64, most: u64) -> Option<u64>
@@ -53,19 +56,37 @@ fn decimal_digit(byte: u8) -> Option<u8>
     }
 }
 
-/// The signed number of 32 bits that a text spells, with `-` before a number other than 0.
-pub(crate) fn signed_number(text: &str) -> Option<i32>
-    ensures { result ≡ signed_number text.now }
+/// The signed number that a text spells, with `-` before a number other than 0: of a magnitude of at most `least`
+/// below 0, and of at most `most` above.
+fn signed(text: &[u8], least: u64, most: u64) -> Option<i64>
+    requires least { least ≤ 1000000000000 }
+    requires most { most ≤ 1000000000000 }
+    ensures value { result ≡ signed_within least most text.now }
+    ensures low { IfSome result (λ z. (pos 0 -ℤ pos least) ≤ℤ z) }
+    ensures high { IfSome result (λ z. z ≤ℤ pos most) }
 {
-    let bytes = text.as_bytes();
-    let (first, others) = bytes.split_first()?;
+    let (first, others) = text.split_first()?;
     if *first == b'-' {
-        let magnitude = number(others, 1, 2147483648)?;
-        Some((-(magnitude as i64)) as i32)
+        Some(-(number(others, 1, least)? as i64))
     } else {
-        let number = number(bytes, 0, 2147483647)?;
-        Some(number as i32)
+        Some(number(text, 0, most)? as i64)
     }
+}
+
+/// The signed number of 32 bits that a text spells.
+pub(crate) fn signed_number(text: &[u8]) -> Option<i32>
+    ensures value { result ≡ signed_number text.now }
+    ensures low { IfSome result (λ z. negsuc 2147483647 ≤ℤ z) }
+    ensures high { IfSome result (λ z. z ≤ℤ pos 2147483647) }
+{
+    Some(signed(text, 2147483648, 2147483647)? as i32)
+}
+
+/// The signed number of at most 10 digits that a text spells.
+pub(crate) fn wide_number(text: &[u8]) -> Option<i64>
+    ensures { result ≡ wide_number text.now }
+{
+    signed(text, 9999999999, 9999999999)
 }
 
 /// The address that `0x` and 1 to 8 hexadecimal digits spell.

@@ -1,13 +1,14 @@
-//! The words behind the places of a run.
+//! The words after the places of a run.
 
-ghost use Rattle.std.specs.Prelude.{◌≡◌, ◌≤◌, ◌<◌, ◌%◌, ◌==◌, true, false, Some, None, IfOk, IfSome, IfNone, map, string_bytes};
-ghost use Rattle.std.specs.List.{list_all, list_any};
+ghost use Rattle.std.specs.Prelude.{◌≡◌, ◌<◌, ◌==◌, None, IfOk, IfSome, map, string_bytes};
+ghost use Rattle.std.specs.List.{list_any};
 ghost use Rattle.std.specs.Str.{bytes_eq};
-ghost use Rattle.arm_machine.specs.Starting.{AreParameters};
-ghost use Rattle.command_words.specs.Places.{has_equals_sign};
-ghost use Rattle.command_words.specs.Options.{after_key, after_sp, after_stack, after_steps, after_value, after_word, after_words, given_value, is_letter, is_name, is_name_byte, key_of, nothing_given, register_of, register_value_of, setup_of, setup_with, stack_of, text_of, IsGiven, IsSetup};
+ghost use Rattle.command_words.specs.Options.{after_key, after_sp, after_stack, after_steps, after_value, after_word};
+ghost use Rattle.command_words.specs.Options.{given_value, nothing_given, register_value_of, setup_of, setup_with};
+ghost use Rattle.command_words.specs.Options.{IsGiven, IsSetup};
 
 use crate::numerals::{address, number, signed_number};
+use crate::parts::{DEFAULT_STACK, cut, is_name, register_of, stack_size};
 use crate::word::Word;
 use arm_machine::RegisterValue;
 use sqlite_items::Items;
@@ -16,14 +17,8 @@ use std::alloc::{AllocError, Global};
 /// The stack pointer of a run that is given none.
 const DEFAULT_SP: u32 = 0x2000_0000;
 
-/// The bytes of stack of a run that is given no size.
-const DEFAULT_STACK: u32 = 4096;
-
 /// The steps of a run that is given no number.
 const DEFAULT_STEPS: u64 = 1_000_000;
-
-/// The most bytes of stack.
-const MOST_STACK: u64 = 1_048_576;
 
 /// The most steps.
 const MOST_STEPS: u64 = 1_000_000_000_000;
@@ -51,7 +46,7 @@ pub(crate) struct Given {
     steps: Option<u64>,
 }
 
-/// How a run is set up by the words behind its places, or `None` where one of them is wrong.
+/// How a run is set up by the words after its places, or `None` where one of them is wrong.
 pub(crate) fn read_setup(alloc: Global, words: &[String]) -> Result<Option<Setup>, AllocError>
     ensures value { IfOk result (λ found. found ≡ setup_of (map string_bytes words.now)) }
     ensures setup { IfOk result (λ found. IfSome found IsSetup) }
@@ -193,48 +188,6 @@ impl Given {
     }
 }
 
-/// What stands before the first `=` of a word, and what stands behind it.
-#[tactic(auto, using(crate::proofs::Parameters::found_first, crate::proofs::Parameters::none_first))]
-fn cut(word: &str) -> Option<(&str, &str)>
-    ensures some { IfSome result (λ p. (has_equals_sign word.now ≡ true) × (p.0.now ≡ key_of word.now) × (p.1.now ≡ text_of word.now)) }
-    ensures none { IfNone result (has_equals_sign word.now ≡ false) }
-{
-    word.split_once('=')
-}
-
-/// An ASCII letter followed by at most 15 letters, digits or `_`.
-fn is_name(text: &str) -> bool
-    ensures { result ≡ is_name text.now }
-{
-    match text.as_bytes().split_first() {
-        Some((first, others)) => is_letter(*first) && others.len() <= 15 && are_name_bytes(others),
-        None => false,
-    }
-}
-
-fn are_name_bytes(bytes: &[u8]) -> bool
-    ensures { result ≡ list_all is_name_byte bytes.now }
-{
-    for byte in bytes {
-        if !is_name_byte(*byte) {
-            return false;
-        }
-    }
-    true
-}
-
-fn is_name_byte(byte: u8) -> bool
-    ensures { result ≡ is_name_byte byte }
-{
-    is_letter(byte) || (b'0' <= byte && byte <= b'9') || byte == b'_'
-}
-
-fn is_letter(byte: u8) -> bool
-    ensures { result ≡ is_letter byte }
-{
-    (b'A' <= byte && byte <= b'Z') || (b'a' <= byte && byte <= b'z')
-}
-
 /// The register and the number of `rK=VALUE`.
 fn register_value(text: &str) -> Option<RegisterValue>
     ensures value { result ≡ register_value_of text.now }
@@ -243,34 +196,8 @@ fn register_value(text: &str) -> Option<RegisterValue>
     let (register, value) = cut(text)?;
     Some(RegisterValue {
         register: register_of(register)?,
-        value: signed_number(value)?,
+        value: signed_number(value.as_bytes())?,
     })
-}
-
-/// The register of `r0` to `r12`.
-fn register_of(text: &str) -> Option<u8>
-    ensures value { result ≡ register_of text.now }
-    ensures limit { IfSome result (λ k. k < 13) }
-{
-    let (r, digits) = text.as_bytes().split_first()?;
-    if *r == b'r' {
-        Some(number(digits, 0, 12)? as u8)
-    } else {
-        None
-    }
-}
-
-/// The size of a stack in bytes: a multiple of 4, at most 1,048,576.
-fn stack_size(text: &str) -> Option<u32>
-    ensures value { result ≡ stack_of text.now }
-    ensures limits { IfSome result (λ n. (n ≤ 1048576) × (n % 4 ≡ 0)) }
-{
-    let size = number(text.as_bytes(), 0, MOST_STACK)?;
-    if size % 4 == 0 {
-        Some(size as u32)
-    } else {
-        None
-    }
 }
 
 fn has_name(names: &[Word], name: &str) -> bool

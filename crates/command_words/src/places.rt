@@ -1,7 +1,8 @@
-//! The words that stand directly behind a command.
+//! The words that stand directly after a command.
 
 ghost use Rattle.std.specs.Prelude.{◌≡◌, Some, None, IfOk, IfSome, IfNone, map, string_bytes};
-ghost use Rattle.command_words.specs.Places.{function_of, has_equals_sign, places_of, task_of, timing_of};
+ghost use Rattle.command_words.specs.Parts.{has_equals_sign};
+ghost use Rattle.command_words.specs.Places.{function_of, places_of, task_of, timing_of};
 
 use crate::numerals::address;
 use crate::word::Word;
@@ -39,18 +40,19 @@ pub struct Task {
     pub function: FunctionWord,
 }
 
-/// The words of the places, and those behind them.
+/// The words of the places, and those after them.
 #[derive(Drop)]
 pub(crate) struct Places<'a> {
     /// What the places ask for.
     pub task: Task,
-    /// The words behind the places.
+    /// The words after the places.
     pub options: &'a [String],
 }
 
 /// The task of the first three words, or `None` where they are no task.
 pub(crate) fn read_places(alloc: Global, words: &[String]) -> Result<Option<Places<'_>>, AllocError>
-    ensures some { IfOk result (λ found. IfSome found (λ p. places_of (map string_bytes words.now) ≡ Some (p.task, map string_bytes p.options.now))) }
+    ensures some { IfOk result (λ found. IfSome found (λ p. places_of (map string_bytes words.now)
+        ≡ Some (p.task, map string_bytes p.options.now))) }
     ensures none { IfOk result (λ found. IfNone found (places_of (map string_bytes words.now) ≡ None)) }
 {
     let Some((elf, words)) = words.split_first() else {
@@ -86,8 +88,8 @@ fn read_task(
     }))
 }
 
-/// Whether a word has `=`, which marks the words behind the places.
-fn has_equals_sign(word: &str) -> bool
+/// Whether a word has `=`, which marks the words after the places.
+pub(crate) fn has_equals_sign(word: &str) -> bool
     ensures { result ≡ has_equals_sign word.now }
 {
     word.as_bytes().contains(&b'=')
