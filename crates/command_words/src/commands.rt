@@ -1,12 +1,14 @@
 //! Commands and their words.
 
-ghost use Rattle.std.specs.Prelude.{◌≡◌, IfOk, IfSome, map, string_bytes};
-ghost use Rattle.command_words.specs.Commands.{analyse_of, command_of, eval_of, run_of, HasSetup};
+ghost use Rattle.std.specs.Prelude.{◌≡◌, ◌++◌, ◌∷◌, [], IfOk, IfSome, OnOk, map, string_bytes};
+ghost use Rattle.command_words.specs.Commands.{analyse_of, command_of, eval_of, files_of, files_of_task, run_of, HasSetup};
+ghost use Rattle.command_words.specs.Places.{timing_files};
 
 use crate::analyses::{AnalysisSetup, read_analysis_setup};
 use crate::options::{Setup, read_setup};
-use crate::places::{Places, Task, read_places};
+use crate::places::{Places, Task, TimingWord, read_places};
 use crate::valuations::{Valuation, read_valuation};
+use crate::word::Word;
 use std::alloc::{AllocError, Global};
 
 /// What the words ask for.
@@ -78,5 +80,51 @@ fn read_eval(alloc: Global, words: &[String]) -> Result<Option<Command>, AllocEr
     match read_valuation(alloc, words)? {
         Some(valuation) => Ok(Some(Command::Eval(valuation))),
         None => Ok(None),
+    }
+}
+
+/// Adds the name of a timing file, where one is meant.
+fn add_timing(alloc: Global, timing: &TimingWord, names: &mut Vec<Word>) -> Result<(), AllocError>
+    ensures { OnOk result (names.new.items ≡ names.old.items ++ timing_files timing.now) }
+{
+    match timing {
+        TimingWord::UnitTable => {}
+        TimingWord::File(name) => names.push(Word::of(alloc, name.as_str())?)?,
+    }
+    Ok(())
+}
+
+/// The names of the files of a task.
+fn files_of_task(alloc: Global, task: &Task) -> Result<Vec<Word>, AllocError>
+    ensures { IfOk result (λ names. names.items ≡ files_of_task task.now) }
+{
+    let mut names = Vec::new(alloc);
+    names.push(Word::of(alloc, task.elf.as_str())?)?;
+    add_timing(alloc, &task.timing, &mut names)?;
+    Ok(names)
+}
+
+/// The name of one file.
+fn one_file(alloc: Global, name: &Word) -> Result<Vec<Word>, AllocError>
+    ensures { IfOk result (λ names. names.items ≡ name.now ∷ []) }
+{
+    let mut names = Vec::new(alloc);
+    names.push(Word::of(alloc, name.as_str())?)?;
+    Ok(names)
+}
+
+impl Command {
+    /// The names of the files that the command reads, in the order of the words.
+    ///
+    /// # Errors
+    ///
+    /// Where memory is refused.
+    pub fn files(&self, alloc: Global) -> Result<Vec<Word>, AllocError>
+        ensures { IfOk result (λ names. names.items ≡ files_of self.now) }
+    {
+        match self {
+            Command::Analyse(task, _) | Command::Run(task, _) => files_of_task(alloc, task),
+            Command::Eval(valuation) => one_file(alloc, &valuation.report),
+        }
     }
 }
