@@ -1,9 +1,9 @@
 -- A graph with its loops, uses and levels is an analysis.
-use Rattle.std.proofs.Common.{◌≡◌, ◌≢◌, ◌⊎◌, inl, inr, ℕ, zero, suc, ◌+◌, ◌-◌, ◌<◌, ◌*◌, List, [], ◌∷◌, length, map, get_or, refl, sym, ap}
+use Rattle.std.proofs.Common.{◌≡◌, ◌≢◌, ◌⊎◌, inl, inr, ℕ, zero, suc, ◌+◌, ◌-◌, ◌<◌, ◌≤◌, ◌*◌, List, [], ◌∷◌, length, map, get_or, refl, sym, ap}
 use Rattle.std.proofs.Common.{◌∙◌, subst}
 use Rattle.std.proofs.Common.{Bool, true, false, arith}
 use Rattle.std.specs.Prelude.{Option, Some, None, Contains, ◌==◌, ◌&&◌, ◌||◌, slice_get, slice_index_or, nat_eq, nat_lt, is_some}
-use Rattle.std.specs.Prelude.{if◌then◌else◌}
+use Rattle.std.specs.Prelude.{if◌then◌else◌, max, unwrap_or}
 use Rattle.std.specs.List.{AllByRecursion, list_any}
 use Rattle.std.proofs.lemmas.Bool.{false≢true}
 use Rattle.std.proofs.lemmas.Bool.Decides.{nat_tests}
@@ -13,6 +13,7 @@ use Rattle.fetch_timing.specs.declared.timing.Timing.{Timing}
 use Rattle.fetch_timing.specs.Timings.{point_cost}
 use Rattle.wsym_terms.specs.declared.trees.BlockUses.{BlockUses}
 use Rattle.wsym_terms.specs.declared.trees.Use.{Use}
+use Rattle.wsym_terms.specs.Trees.{greatest_scope}
 use Rattle.graph_search.specs.Flows.{edge, leads}
 use Rattle.graph_search.specs.NodeLists.{holds}
 use Rattle.graph_search.specs.Rows.{row_in}
@@ -40,14 +41,15 @@ use Rattle.interval_loops.specs.Rounds.{last_or, round_by, within_by}
 use Rattle.interval_loops.proofs.ClosingLemmas.{closes}
 use Rattle.interval_loops.proofs.RoundLemmas.{are_ends, are_loops, is_order, is_round}
 use Rattle.graph_reduction.specs.Loops.{ClosesLoops}
+use Rattle.level_tables.specs.FlowLevels.{AreUsesIn, IsLevelsOf}
 use Rattle.line_uses.specs.Leaves.{AreUsesOf, leaf_of}
 use Rattle.line_uses.specs.PointMaps as maps
 use Rattle.line_uses.specs.Scopes.{cost_in, scope_in}
 use Rattle.line_uses.specs.declared.leaves.LineUses.{LineUses}
 use Rattle.graph_reduction.specs.Reduction.{State}
-use Rattle.persistence.specs.BlockMisses.{always}
-use Rattle.persistence.specs.Spots.{base_of_points, uses_of_points}
-use Rattle.persistence.specs.Younger.{AtLeast, IsScope, IsYounger}
+use Rattle.persistence.specs.BlockMisses.{always, is_use}
+use Rattle.persistence.specs.Spots.{Spot, base_of_points, spots, turned, use_of, uses_of_points, with_spot}
+use Rattle.persistence.specs.Younger.{AtLeast, Code, IsScope, IsYounger}
 use Rattle.tree_law.specs.Levels.{Nest}
 use Rattle.tree_law.specs.NodeOrders.{sum_over}
 use Rattle.block_points.specs.declared.tables.BlockPoints.{BlockPoints}
@@ -55,11 +57,12 @@ use Rattle.block_points.specs.Numbering.{first_of, numbers_from, rows_from}
 use Rattle.block_points.specs.Tables.{ArePoints}
 use Rattle.cycle_bounds.specs.Analyses.{Analysis, AreNumbers, AreScopes, base_of, flow_of, points_at, points_in, uses_of}
 use Rattle.cycle_bounds.specs.Functions.{IsAnalysisOf, line_at, most_at, most_of}
-use Rattle.graph_analyses.specs.GraphAnalyses.{AreLevelsOf, analysis_of, chain_of, maps_of, point_at}
+use Rattle.graph_analyses.specs.GraphAnalyses.{analysis_of, chain_of, maps_of, point_at}
 use Rattle.graph_analyses.proofs.CutLemmas.{Both, Numbered, all_home, both_at, cost_here, cut_is, line_here, next_across, next_inner}
-use Rattle.graph_analyses.proofs.CutLemmas.{numbered, row_there, contained}
+use Rattle.graph_analyses.proofs.CutLemmas.{numbered, row_there, rows_length, contained}
 use Rattle.graph_analyses.proofs.DepthLemmas.{last_held, place_of_last}
-use Rattle.graph_analyses.proofs.NumberLemmas.{all_numbers, chain_numbers, inside_at, item_at, last_number, map_at, some_item, sum_same}
+use Rattle.graph_analyses.proofs.NumberLemmas.{all_numbers, chain_numbers, inside_at, item_at, last_number, map_at, map_length, mapped_at}
+use Rattle.graph_analyses.proofs.NumberLemmas.{some_item, sum_same}
 
 -- ---- tests
 
@@ -87,6 +90,28 @@ any_of (x ∷ next) j i =
 last_mapped : (f : ℕ → Point) (p : ℕ) (ps : List ℕ) → last_of (f p) (map f ps) ≡ f (last_of p ps)
 last_mapped f p [] = refl
 last_mapped f p (q ∷ ps) = last_mapped f q ps
+
+-- where no point of a block has a scope past a depth, no use of it has
+scopes_low : (c : Code) (scope : ℕ → Option ℕ) (home : ℕ → ℕ) (i m : ℕ)
+    → ((q d : ℕ) → home q ≡ i → scope q ≡ Some d → d ≤ m) → (prev : Option ℕ) (done ps : List ℕ)
+    → AllByRecursion (λ q. home q ≡ i) ps → greatest_scope (map (use_of c scope) (spots c scope prev done ps)) ≤ m
+scopes_low c scope home i m low prev done [] all = omega arith
+scopes_low c scope home i m low prev done (q ∷ ps) all =
+    by_case (is_use c prev q) (scope q) refl (record { before = done; point = q; later = turned ps [] }) refl
+    (spots c scope (Some q) (q ∷ done) ps) (scopes_low c scope home i m low (Some q) (q ∷ done) ps all.1)
+  where
+    max_low : (x y : ℕ) → x ≤ m → y ≤ m → max x y ≤ m
+    max_low x y h k = omega (arith, h, k)
+
+    by_case : (test : Bool) (o : Option ℕ) → scope q ≡ o → (spot : Spot) → spot.point ≡ q → (rest : List Spot)
+        → greatest_scope (map (use_of c scope) rest) ≤ m
+        → greatest_scope (map (use_of c scope) (with_spot test (is_some o) spot rest)) ≤ m
+    by_case false o e spot here rest few = few
+    by_case true None e spot here rest few = few
+    by_case true (Some d) e spot here rest few =
+        let mine : unwrap_or (scope spot.point) 0 ≤ m =
+        subst (λ (o : Option ℕ). unwrap_or o 0 ≤ m) (sym (ap scope here ∙ e)) (low q d all.0 e) in
+        max_low (unwrap_or (scope spot.point) 0) (greatest_scope (map (use_of c scope) rest)) mine few
 
 module _ (image : ImageValue) (entry : ℕ) (g : BlockGraph) (is : IsGraphOf image entry g) (t : Timing) (n : LoopNest)
     (p : BlockPoints) (are : ArePoints t g.blocks p) (scopes : List (Option ℕ)) (rank : ℕ → ℕ) (nest : Nest) where
@@ -293,7 +318,7 @@ module _ (image : ImageValue) (entry : ℕ) (g : BlockGraph) (is : IsGraphOf ima
   numbers_are i c e = points_are i c e ∙ (here i c e).numbers
 
   pub base_is : (u : LineUses) → scopes ≡ u.scopes → AreUsesOf t.sets t.ways t.miss (maps_of n p) p.rows p.costs u
-      → AreLevelsOf g n u.blocks nest
+      → IsLevelsOf (flow_in g) n u.blocks nest
       → (i : ℕ) (c : Chain ℕ) → slice_get a.blocks i ≡ Some c → nest.base i ≡ base_of t (most_at image t) a i
   base_is u same uses levels i c e =
       let row = numbers_from (first_of g.blocks i) (length (here i c e).both.block.points) in
@@ -304,7 +329,7 @@ module _ (image : ImageValue) (entry : ℕ) (g : BlockGraph) (is : IsGraphOf ima
       ∙ ap (base_of_points t.miss (λ q. most_at image t (a.point q)) a.code a.scope) (sym (numbers_are i c e))
 
   pub uses_are : (u : LineUses) → scopes ≡ u.scopes → AreUsesOf t.sets t.ways t.miss (maps_of n p) p.rows p.costs u
-      → AreLevelsOf g n u.blocks nest
+      → IsLevelsOf (flow_in g) n u.blocks nest
       → (i : ℕ) (c : Chain ℕ) → slice_get a.blocks i ≡ Some c → nest.uses i ≡ uses_of a i
   uses_are u same uses levels i c e =
       let row = numbers_from (first_of g.blocks i) (length (here i c e).both.block.points) in
@@ -381,7 +406,7 @@ module _ (image : ImageValue) (entry : ℕ) (g : BlockGraph) (is : IsGraphOf ima
         (length (around_of n b)) q d) in_nest.sizes.1 found)
 
     pub are_analysis : (u : LineUses) → scopes ≡ u.scopes → AreUsesOf t.sets t.ways t.miss (maps_of n p) p.rows p.costs u
-        → AreLevelsOf g n u.blocks nest → IsAnalysisOf image t entry a
+        → IsLevelsOf (flow_in g) n u.blocks nest → IsAnalysisOf image t entry a
     are_analysis u same uses levels = record {
       numbers = are_numbers;
       scopes = are_scopes u same uses;
@@ -394,6 +419,53 @@ module _ (image : ImageValue) (entry : ℕ) (g : BlockGraph) (is : IsGraphOf ima
           (depth_of n) (around_of n) 16 in_nest.round;
       apart = are_ends (flow_in g) s.closed rank closing reach in_nest.rises (header_of (flow_in g) n) (parent_of n) (inner_of n)
           (depth_of n) (around_of n) 16 in_nest.round refl in_nest.ranks;
-      levels = levels.levels;
-      edges = levels.edges;
+      levels = levels.are;
+      edges = levels.all;
+    }
+
+    -- no use in the leaf of a block has a scope inside a deeper loop than the block's innermost
+    pub uses_low : (u : LineUses) → scopes ≡ u.scopes → AreUsesOf t.sets t.ways t.miss (maps_of n p) p.rows p.costs u
+        → (i : ℕ) (x : BlockUses) → slice_get u.blocks i ≡ Some x → greatest_scope x.uses ≤ depth_of n (inner_of n i)
+    uses_low u same uses i x e =
+        let found = mapped_at (leaf_of t.miss p.costs (maps_of n p) u.scopes) p.rows i x
+        (ap (λ (xs : List BlockUses). slice_get xs i) (sym uses.blocks) ∙ e) in
+        let c = chain_of found.0 in
+        let there : slice_get a.blocks i ≡ Some c = map_at chain_of p.rows i found.0 found.1 in
+        let row : found.0 ≡ points c =
+        some_item found.0 (numbers_from (first_of g.blocks i) (length (here i c there).both.block.points))
+        (sym found.1 ∙ row_is i c there)
+        ∙ sym (here i c there).numbers in
+        let home : AllByRecursion (λ q. a.block_of q ≡ i) found.0 =
+        subst (AllByRecursion (λ q. a.block_of q ≡ i)) (sym row) (are_numbers.home i c there) in
+        subst (λ (y : BlockUses). greatest_scope y.uses ≤ depth_of n (inner_of n i)) found.2
+        (scopes_low a.code (scope_in u.scopes) a.block_of i (depth_of n (inner_of n i)) low None [] found.0 home)
+      where
+        low : (q d : ℕ) → a.block_of q ≡ i → scope_in u.scopes q ≡ Some d → d ≤ depth_of n (inner_of n i)
+        low q d home given =
+            subst (λ (b : ℕ). d ≤ depth_of n (inner_of n b)) home
+            (are_scopes u same uses q d (ap (λ (xs : List (Option ℕ)). scope_in xs q) same ∙ given)).0
+
+-- what stands of the blocks is what leaves may have
+pub uses_in : (image : ImageValue) (entry : ℕ) (g : BlockGraph) → IsGraphOf image entry g → (t : Timing) (n : LoopNest)
+    → IsNestOf (flow_in g) n → (p : BlockPoints) → ArePoints t g.blocks p → (u : LineUses)
+    → AreUsesOf t.sets t.ways t.miss (maps_of n p) p.rows p.costs u → AreUsesIn (flow_in g) n u.blocks
+uses_in image entry g is t n nested p are u uses = record {
+  all = ap length uses.blocks ∙ map_length (leaf_of t.miss p.costs (maps_of n p) u.scopes) p.rows ∙ ap length are.rows
+      ∙ rows_length g.blocks 0 ∙ sym is.graph.count;
+  scopes = uses_low image entry g is t n p are u.scopes nested.1 no_levels nested.0 nested.2 u refl uses;
+}
+  where
+    no_levels : Nest
+    no_levels = record {
+      level = λ c. record {
+        edge = λ u v. false;
+        useful = λ e u v. false;
+        nodes = λ e. [];
+        header = 0;
+        close = 0;
+        leave = 0;
+      };
+      child = λ c v. None;
+      base = λ b. 0;
+      uses = λ b. [];
     }

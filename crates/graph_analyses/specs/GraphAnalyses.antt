@@ -1,13 +1,11 @@
 -- The analysis that a graph makes with its loops, the uses of its blocks and the levels of its tree.
-use Rattle.std.specs.Prelude.{◌≡◌, ℕ, ◌+◌, ◌-◌, List, [], ◌∷◌, Option, Some, get_or, map, slice_get}
-use Rattle.wsym_terms.specs.declared.trees.BlockUses.{BlockUses}
+use Rattle.std.specs.Prelude.{ℕ, ◌+◌, ◌-◌, List, [], ◌∷◌, Option, get_or, map}
 use Rattle.graph_search.specs.Flows.{edge}
 use Rattle.control_flow.specs.Points.{Point, entry_point}
 use Rattle.basic_blocks.specs.Blocks.{Chain}
 use Rattle.interval_loops.specs.declared.nest.LoopNest.{LoopNest}
 use Rattle.interval_loops.specs.Nests.{around_of, depth_of, loops_of}
 use Rattle.interval_loops.specs.Rounds.{round_by, within_by}
-use Rattle.tree_law.specs.LevelEdges.{AreLevels, EdgesOf}
 use Rattle.tree_law.specs.Levels.{Nest}
 use Rattle.flow_graph.specs.declared.graph.BlockGraph.{BlockGraph}
 use Rattle.flow_graph.specs.Flow.{flow_in}
@@ -53,11 +51,3 @@ analysis_of g n p scopes rank nest = record {
   top = (flow_in g).count + 1;
   nest = nest;
 }
-
--- the levels of the loops of a graph, with what stands of each block in its leaf
-pub record AreLevelsOf (g : BlockGraph) (n : LoopNest) (blocks : List BlockUses) (nest : Nest) : Type 0 where
-  pub levels : AreLevels (loops_of (flow_in g) n) (edge (flow_in g)) (within_by (flow_in g) (around_of n))
-      (flow_in g).entry (depth_of n) ((flow_in g).count + 1) ((flow_in g).count + 2) nest
-  pub edges : EdgesOf (loops_of (flow_in g) n) (edge (flow_in g)) (within_by (flow_in g) (around_of n))
-      (flow_in g).entry (flow_in g).returns nest
-  pub costs : (b : ℕ) (u : BlockUses) → slice_get blocks b ≡ Some u → (nest.base b ≡ u.base) × (nest.uses b ≡ u.uses)

@@ -16,7 +16,8 @@ ghost use Rattle.block_points.specs.Tables.{ArePoints};
 ghost use Rattle.line_uses.specs.declared.leaves.LineUses.{LineUses as LineUsesValue};
 ghost use Rattle.line_uses.specs.Leaves.{AreUsesOf};
 ghost use Rattle.cycle_bounds.specs.Functions.{IsAnalysisOf};
-ghost use Rattle.graph_analyses.specs.GraphAnalyses.{AreLevelsOf, analysis_of, maps_of};
+ghost use Rattle.graph_analyses.specs.GraphAnalyses.{analysis_of, maps_of};
+ghost use Rattle.level_tables.specs.FlowLevels.{IsLevelsOf};
 
 /// The graph of a function, its loops, its numbered points, the uses of its blocks and the levels of its loops are an
 /// analysis of the function, for some order of its blocks.
@@ -24,6 +25,6 @@ pub fn graphs_are_analyses()
     ensures { (image : ImageValue) (t : Timing) (entry : ℕ) (g : BlockGraphValue) (n : LoopNestValue)
         (p : BlockPointsValue) (u : LineUsesValue) (nest : Nest) → IsGraphOf image entry g → IsNestOf (flow_in g) n
         → ArePoints t g.blocks p → AreUsesOf t.sets t.ways t.miss (maps_of n p) p.rows p.costs u
-        → AreLevelsOf g n u.blocks nest
+        → IsLevelsOf (flow_in g) n u.blocks nest
         → (rank : ℕ → ℕ) × IsAnalysisOf image t entry (analysis_of g n p u.scopes rank nest) }
 {}

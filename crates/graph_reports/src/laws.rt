@@ -19,7 +19,8 @@ ghost use Rattle.block_points.specs.declared.tables.BlockPoints.{BlockPoints as 
 ghost use Rattle.block_points.specs.Tables.{ArePoints};
 ghost use Rattle.line_uses.specs.declared.leaves.LineUses.{LineUses as LineUsesValue};
 ghost use Rattle.line_uses.specs.Leaves.{AreUsesOf};
-ghost use Rattle.graph_analyses.specs.GraphAnalyses.{AreLevelsOf, analysis_of, maps_of};
+ghost use Rattle.graph_analyses.specs.GraphAnalyses.{analysis_of, maps_of};
+ghost use Rattle.level_tables.specs.FlowLevels.{IsLevelsOf};
 ghost use Rattle.report_lines.specs.declared.report.Report.{Report as ReportValue};
 ghost use Rattle.report_bounds.specs.Descriptions.{IsReportOf};
 ghost use Rattle.report_bounds.specs.Promises.{HasNoBounds, IsKept, printed_bounds};
@@ -49,7 +50,7 @@ pub fn graph_reports_are_kept()
         (p : BlockPointsValue) (u : LineUsesValue) (nest : Nest) (params : List ParamRange) (r : ReportValue)
         → entry < 2 ^ 32 → stack < 2 ^ 31 → IsWithinLimits t → IsGraphOf image entry g → IsNestOf (flow_in g) n
         → IsFollowed image entry stack → ArePoints t g.blocks p
-        → AreUsesOf t.sets t.ways t.miss (maps_of n p) p.rows p.costs u → AreLevelsOf g n u.blocks nest
+        → AreUsesOf t.sets t.ways t.miss (maps_of n p) p.rows p.costs u → IsLevelsOf (flow_in g) n u.blocks nest
         → HasParts g n t stack params r → r.tree ≡ function_tree nest 17
         → r.formula ≡ normal (known_of (printed_bounds r)) (formula_of t.miss r.tree) → IsKept image t entry stack r }
 {

@@ -13,7 +13,7 @@ use Rattle.graph_search.specs.Rows.{row_in}
 use Rattle.control_flow.specs.Instructions.{instruction_at}
 use Rattle.control_flow.specs.Points.{entry_point}
 use Rattle.control_flow.specs.Ways.{ways_from}
-use Rattle.function_points.proofs.MemberLemmas.{here, there}
+use Rattle.function_points.proofs.MemberLemmas.{first_or_rest, here, in_none, there}
 use Rattle.flow_graph.specs.declared.graph.Block.{Block}
 use Rattle.flow_graph.specs.declared.graph.BlockGraph.{BlockGraph}
 use Rattle.flow_graph.specs.Flow.{flow_in, next_of}
@@ -281,3 +281,12 @@ module _ (image : ImageValue) (entry : ℕ) (g : BlockGraph) (is : IsGraphOf ima
                   absurd (false≢true (ap (holds nat_eq q) (sym (ap (λ (rows : List (List ℕ)). row_in rows b) are.rows
                   ∙ row_past (rows_from 0 g.blocks) b (let s = rows_length g.blocks 0 in omega (arith, le, s)))) ∙ e))
             ]
+
+-- no block has more points than all blocks together
+pub within_total : (bs : List Block) (b : Block) → Contains bs b → length b.points ≤ total_of bs
+within_total [] b i = absurd (in_none b i)
+within_total (x ∷ bs) b i =
+    elim (first_or_rest x b bs i) as (λ _. length b.points ≤ total_of (x ∷ bs)) [
+      | inl e ↦ (let same = ap (λ (y : Block). length y.points) e in omega (arith, same))
+      | inr rest ↦ (let below = within_total bs b rest in omega (arith, below))
+    ]

@@ -1,13 +1,15 @@
 //! Uses are found over the numbered points of a graph.
 
-ghost use Rattle.std.specs.Prelude.{◌≡◌, ◌<◌, ◌^◌, ℕ, true, length, nat_eq, IfSome, IfOk};
+ghost use Rattle.std.specs.Prelude.{◌≡◌, ◌<◌, ◌^◌, ℕ, true, Contains, length, nat_eq, IfSome, IfOk, OnOk};
 ghost use Rattle.elf32_image.specs.Parts.{ImageValue};
 ghost use Rattle.fetch_timing.specs.Timings.{IsWithinLimits};
 ghost use Rattle.graph_search.specs.NodeLists.{holds};
 ghost use Rattle.graph_search.specs.Rows.{row_in};
+ghost use Rattle.flow_graph.specs.declared.graph.Block.{Block as BlockValue};
 ghost use Rattle.flow_graph.specs.Flow.{flow_in};
 ghost use Rattle.flow_graph.specs.Graphs.{IsGraphOf};
 ghost use Rattle.interval_loops.specs.Nests.{IsNestOf};
+ghost use Rattle.level_tables.specs.FlowLevels.{AreUsesIn};
 ghost use Rattle.block_points.specs.Numbering.{total_of};
 ghost use Rattle.line_uses.specs.Leaves.{AreUsesOf};
 ghost use Rattle.line_uses.specs.PointMaps.{ArePointMaps};
@@ -86,7 +88,9 @@ pub fn graph_uses(
     requires limits { IsWithinLimits timing.now }
     requires graph { (image : ImageValue) × (entry : ℕ) × IsGraphOf image entry graph.now }
     requires nest { IsNestOf (flow_in graph.now) nest.now }
-    ensures { IfOk result (AreGraphUses timing.now graph.now nest.now) }
+    ensures uses { IfOk result (AreGraphUses timing.now graph.now nest.now) }
+    ensures leaves { IfOk result (λ u. AreUsesIn (flow_in graph.now) nest.now u.uses.blocks) }
+    ensures few { OnOk result ((b : BlockValue) → Contains graph.now.blocks b → length b.points < 2 ^ 32) }
 {
     let Some(_total) = total_points(graph.blocks.as_slice()) else {
         return Err(AllocError);

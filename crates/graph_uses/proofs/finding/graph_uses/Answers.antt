@@ -1,11 +1,12 @@
-use Rattle.std.proofs.Common.{◌∙◌, ◌<◌, ◌^◌, List, length, ap, sym, subst, arith}
+use Rattle.std.proofs.Common.{◌∙◌, ◌<◌, ◌≤◌, ◌^◌, List, length, ap, sym, subst, arith}
 use Rattle.flow_graph.specs.declared.graph.Block.{Block}
 use Rattle.flow_graph.specs.Flow.{flow_in}
 use Rattle.flow_graph.proofs.FlowLemmas.{all_reached, graph_bounded}
 use Rattle.block_points.specs.Numbering.{total_of}
 use Rattle.block_points.specs.Tables.{AreLinked, ArePoints}
 use Rattle.graph_analyses.specs.GraphAnalyses.{maps_of}
-use Rattle.graph_uses.proofs.TableLemmas.{block_rows, graph_linked, graph_starts, home_total, rows_inside}
+use Rattle.graph_analyses.proofs.GraphLemmas.{uses_in}
+use Rattle.graph_uses.proofs.TableLemmas.{block_rows, graph_linked, graph_starts, home_total, rows_inside, within_total}
 use Rattle.graph_uses.proofs.finding.graph_uses.Goals as goal
 
 pub number_points-requires-clause-linked : goal.number_points-requires-clause-linked
@@ -45,3 +46,17 @@ uses_of_points-requires-clause-inside c =
     let are =
     subst (λ (bs : List Block). ArePoints c.args.timing.now bs c.in_ok-points.points) c.as_slice-2.ensures c.in_ok-points.ensures in
     rows_inside w.0 w.1 c.args.graph.now w.2 c.args.timing.now c.args.nest.now c.in_ok-points.points are
+
+pub returns-clause-leaves : goal.returns-clause-leaves
+returns-clause-leaves c =
+    let w = c.requires.graph in
+    let are =
+    subst (λ (bs : List Block). ArePoints c.args.timing.now bs c.in_ok-points.points) c.as_slice-2.ensures c.in_ok-points.ensures in
+    uses_in w.0 w.1 c.args.graph.now w.2 c.args.timing.now c.args.nest.now c.requires.nest c.in_ok-points.points are
+    c.in_ok-uses.uses c.in_ok-uses.ensures
+
+pub returns-clause-few : goal.returns-clause-few
+returns-clause-few c b there =
+    let sum = ap total_of (sym c.as_slice.ensures) ∙ c.in-Some.ensures.some in
+    let below = within_total c.args.graph.now.blocks b there in
+    omega (arith, sum, below)
