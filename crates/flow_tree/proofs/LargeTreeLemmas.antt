@@ -1,13 +1,18 @@
--- A tree that is too large makes that of the level round it too large, and so the whole function's.
-use Rattle.std.proofs.Common.{◌≡◌, ◌≢◌, ℕ, zero, suc, ◌+◌, ◌<◌, ◌≤◌, ◌⊎◌, inl, inr, List, [], ◌∷◌, refl, sym, ap, subst, ◌∙◌, arith}
-use Rattle.std.specs.Prelude.{Some}
+-- A tree that is too large makes the level round it too large, and a level its loop.
+use Rattle.std.proofs.Common.{◌≡◌, ℕ, zero, suc, ◌+◌, ◌<◌, ◌≤◌, ◌⊎◌, inl, inr, List, [], ◌∷◌, refl, sym, ap, subst, ◌∙◌, arith}
+use Rattle.std.specs.Prelude.{Bool, true, false, cond}
+use Rattle.std.specs.Ordering.{nat_cmp}
+use Rattle.std.specs.BTreeMap.{is_at}
+use Rattle.std.specs.BTreeSet as set
+use Rattle.std.specs.BTreeSet.{BTreeSet}
+use Rattle.std.proofs.lemmas.Bool.Decides.{nat_tests}
 use Rattle.wsym_terms.specs.TreeNesting.{tree_nesting}
 use Rattle.wsym_terms.specs.Trees.{size_of}
 use Rattle.wsym_terms.specs.declared.trees.Tree.{Tree}
 use Rattle.wsym_terms.specs.declared.trees.Tree.TheVariants.{Seq, Loop}
 use Rattle.tree_law.specs.Ways.{IsIn, edge_ways}
 use Rattle.tree_law.specs.NodeOrders.{sum_over}
-use Rattle.tree_law.specs.Levels.{IsEnd, Nest, function_tree, node_tree}
+use Rattle.tree_law.specs.Levels.{IsEnd, Nest, node_tree}
 use Rattle.elimination_plans.specs.Stages.{Task, tree_members}
 use Rattle.elimination_plans.specs.TreeDepths.{max_over}
 use Rattle.elimination_plans.specs.Weights.{mass}
@@ -18,15 +23,10 @@ use Rattle.node_elimination.specs.LevelPlans.{IsPast}
 use Rattle.node_elimination.specs.LevelStates.{IsTask}
 use Rattle.node_elimination.specs.Measures.{nesting_between, size_between}
 use Rattle.node_elimination.proofs.ReachedStageLemmas.{only_rising, rises_is}
-use Rattle.flow_tree.specs.Descriptions.{AreUsed, HasPast, IsTooLarge}
-use Rattle.flow_tree.specs.FlowTables.{AreTasks, tree_of_loop}
+use Rattle.flow_tree.specs.Descriptions.{IsTooLarge}
+use Rattle.flow_tree.specs.FlowTables.{tree_of_loop}
 use Rattle.flow_tree.specs.LevelTasks.{task_of}
 use Rattle.flow_tree.proofs.LoopCellLemmas.{loop_depth, loop_size}
-use Rattle.flow_tree.proofs.LoopTreeLemmas.{from_table, node_from_table}
-use Rattle.flow_tree.proofs.WholeTreeLemmas.{past_whole}
-
-pub not_zero : (c : ℕ) → 0 < c → c ≢ 0
-not_zero c h e = omega (arith, h, e)
 
 in_sum : (f : ℕ → ℕ) (xs : List ℕ) (v : ℕ) → IsIn v xs → f v ≤ sum_over f xs
 in_sum f [] v i = absurd i
@@ -39,7 +39,7 @@ module _ (k : Task) (rank : ℕ → ℕ) (h : IsTask k rank) where
       (λ v i. only_rising k.nodes v (rises_is k.nodes h.rising) i)
 
   -- the tree of a node stands between the ends
-  node_past : (v : ℕ) → IsIn v k.nodes → IsTooLarge (k.tree v) → IsPast k
+  pub node_past : (v : ℕ) → IsIn v k.nodes → IsTooLarge (k.tree v) → IsPast k
   node_past v i (inl a) =
       inl (let m : mass size_of k.tree k.from k.to (edge_ways k.edge) k.nodes ≤ size_between k = mass_stands k.tree k.from k.to rank
       (edge_ways k.edge) k.nodes h.up linked in
@@ -65,8 +65,9 @@ exit_large d a ts us (inl h) = inl (let l = loop_size d (Seq (a ∷ ts)) (Seq (a
 exit_large d a ts us (inr h) = inr (let l = loop_depth d (Seq (a ∷ ts)) (Seq (a ∷ us)) in let x = seq_depth (a ∷ us) in
     omega (arith, l, x, h))
 
-module _ (n : Nest) (height : ℕ → ℕ) (rank : ℕ → ℕ → ℕ) (tasks : AreTasks n height rank) (are : AreUsed n height) where
-  loop_large : (c t : ℕ) → IsEnd (n.level c) t → IsPast (task_of n height c t) → IsTooLarge (tree_of_loop n height c)
+module _ (n : Nest) (height : ℕ → ℕ) where
+  -- a loop one of whose parts is too large
+  pub loop_large : (c t : ℕ) → IsEnd (n.level c) t → IsPast (task_of n height c t) → IsTooLarge (tree_of_loop n height c)
   loop_large c t (inl e) p =
       body_large c (node_tree n (suc (height c)) c (n.level c).header) (tree_members (task_of n height c (n.level c).close))
       (tree_members (task_of n height c (n.level c).leave)) (subst (λ u. IsPast (task_of n height c u)) e p)
@@ -74,28 +75,16 @@ module _ (n : Nest) (height : ℕ → ℕ) (rank : ℕ → ℕ → ℕ) (tasks :
       exit_large c (node_tree n (suc (height c)) c (n.level c).header) (tree_members (task_of n height c (n.level c).close))
       (tree_members (task_of n height c (n.level c).leave)) (subst (λ u. IsPast (task_of n height c u)) e p)
 
-  round_past : (c p v u : ℕ) → IsEnd (n.level p) u → n.child p v ≡ Some c → IsIn v ((n.level p).nodes u)
-      → IsTooLarge (tree_of_loop n height c)
-      → IsPast (task_of n height p u)
-  round_past c p v u end child i large =
-      node_past (task_of n height p u) (rank p) (tasks.tasks p u end) v i
-      (subst IsTooLarge (sym (node_from_table n height tasks.lower (suc (height p)) p v (omega arith)
-      ∙ ap (λ o. from_table n height tasks.lower o v) child)) large)
+-- one more loop among those whose trees are too large
+pub large_put : (n : Nest) (height : ℕ → ℕ) (old new : BTreeSet ℕ) (c : ℕ)
+    → ((d : ℕ) → set.contains nat_cmp new d ≡ cond (is_at (nat_cmp c) d) true (set.contains nat_cmp old d))
+    → IsTooLarge (tree_of_loop n height c) → ((d : ℕ) → set.contains nat_cmp old d ≡ true → IsTooLarge (tree_of_loop n height d))
+    → (d : ℕ) → set.contains nat_cmp new d ≡ true → IsTooLarge (tree_of_loop n height d)
+large_put n height old new c updates is before d h = by_test (is_at (nat_cmp c) d) refl (sym (updates d) ∙ h)
+  where
+    same : (c d : ℕ) → is_at (nat_cmp c) d ≡ true → c ≡ d
+    same c d e = grind (arith, nat_tests)
 
-  lifted : (k c t : ℕ) → c ≢ 0 → IsEnd (n.level c) t → IsPast (task_of n height c t) → height 0 < height c + k
-      → IsTooLarge (function_tree n (suc (height 0)))
-  lifted zero c t some end past far = (let m = are.highest c in absurd (omega (arith, m, far)))
-  lifted (suc k) c t some end past far = by_level (λ p u some e large above. lifted k p u some e large above) (are.used c t some end past)
-    where
-      by_level : ((p u : ℕ) → p ≢ 0 → IsEnd (n.level p) u → IsPast (task_of n height p u) → height 0 < height p + k
-          → IsTooLarge (function_tree n (suc (height 0)))) → ((p : ℕ) × (v : ℕ) × (u : ℕ) × IsEnd (n.level p) u × (n.child p v ≡ Some c)
-          × IsIn v ((n.level p).nodes u) × (p ≡ 0 → u ≡ (n.level 0).leave))
-          → IsTooLarge (function_tree n (suc (height 0)))
-      by_level higher (zero, v, u, e, child, i, leave) =
-          past_whole n height u (sym (leave refl)) (round_past c zero v u e child i (loop_large c t end past))
-      by_level higher (suc p, v, u, e, child, i, leave) =
-          let l = tasks.lower (suc p) v c child in
-          higher (suc p) u (λ z. omega (arith, z)) e (round_past c (suc p) v u e child i (loop_large c t end past)) (omega (arith, l, far))
-
-  pub large_whole : HasPast n height → IsTooLarge (function_tree n (suc (height 0)))
-  large_whole (c, t, some, end, past) = lifted (suc (height 0)) c t some end past (omega arith)
+    by_test : (b : Bool) → is_at (nat_cmp c) d ≡ b → cond b true (set.contains nat_cmp old d) ≡ true → IsTooLarge (tree_of_loop n height d)
+    by_test true e k = subst (λ x. IsTooLarge (tree_of_loop n height x)) (same c d e) is
+    by_test false e k = before d k

@@ -39,6 +39,7 @@ module _ (n : Nest) (height : ℕ → ℕ) (rank : ℕ → ℕ → ℕ) (s : Lev
     below = λ v i. h.below s.close v at_close i;
     cells = λ v c i e.
         h.cells v c e;
+    large = λ v i e. h.large v e;
   }
 
   pub leaving_task : IsTaskOf s rows.leaves (task_of n height s.level s.leave)
@@ -48,6 +49,7 @@ module _ (n : Nest) (height : ℕ → ℕ) (rank : ℕ → ℕ → ℕ) (s : Lev
     below = λ v i. h.below s.leave v at_leave i;
     cells = λ v c i e.
         h.cells v c e;
+    large = λ v i e. h.large v e;
   }
 
   pub task_at : (t : ℕ) → IsEnd (n.level s.level) t → IsTask (task_of n height s.level t) (rank s.level)

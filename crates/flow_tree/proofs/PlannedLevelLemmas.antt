@@ -1,6 +1,7 @@
 -- A level whose tables are given is a task with its numbers, and its plan can be built from.
-use Rattle.std.proofs.Common.{◌≡◌, ℕ, ◌<◌, List, sym, ap, ◌∙◌}
+use Rattle.std.proofs.Common.{◌≡◌, ℕ, List, sym, ap, subst, ◌∙◌}
 use Rattle.std.specs.Prelude.{Some}
+use Rattle.tree_law.specs.Ways.{IsIn}
 use Rattle.elimination_plans.specs.Plans.{Falls, node_of_plan, via}
 use Rattle.elimination_plans.specs.Stages.{Task}
 use Rattle.elimination_plans.proofs.FinishedPlanLemmas.{done_plan}
@@ -15,12 +16,12 @@ use Rattle.flow_tree.specs.LevelNumbers.{IsTaskOf, cell_for}
 
 pub is_given : (s : LevelNodes) (rows : PathRows) (k : Task) (cells : List Cell) (es : List (ℕ × ℕ)) (ns : List ℕ) → es ≡ rows.edges
     → ns ≡ rows.nodes
-    → ((u : ℕ) → u < s.count → cell_for s u ≡ Some (cell_at cells u)) → IsTaskOf s rows k → IsGiven k cells es ns
+    → ((u : ℕ) → IsIn u ns → cell_for s u ≡ Some (cell_at cells u)) → IsTaskOf s rows k → IsGiven k cells es ns
 is_given s rows k cells es ns e f all h =
     record {
       nodes_are = h.nodes ∙ sym f;
       edges_are = λ p q. h.edges p q ∙ ap (λ (xs : List (ℕ × ℕ)). edges_of xs p q) (sym e);
-      trees_are = λ v i. h.cells v (cell_at cells v) i (all v (h.below v i));
+      trees_are = λ v i. h.cells v (cell_at cells v) i (all v (subst (IsIn v) (h.nodes ∙ sym f) i));
     }
 
 pub same_ways : (k : Task) (p : LevelPlan) → (h : IsPlanOf k p) → via p.plan ≡ h.stage.plan

@@ -1,6 +1,9 @@
 -- A level of the nest that tables describe has the trees that the tables have.
-use Rattle.std.proofs.Common.{◌≡◌, ℕ, suc, ◌+◌, List, length, refl, sym, ap, ◌∙◌, arith}
-use Rattle.std.specs.Prelude.{Option, Some, None, slice_get}
+use Rattle.std.proofs.Common.{◌≡◌, ℕ, suc, ◌+◌, List, length, refl, sym, ap, subst, ◌∙◌, arith}
+use Rattle.std.specs.Prelude.{true, Option, Some, None, slice_get}
+use Rattle.std.specs.Ordering.{nat_cmp}
+use Rattle.std.specs.BTreeSet as set
+use Rattle.std.proofs.lemmas.Bool.{false≢true}
 use Rattle.wsym_terms.specs.TreeNesting.{level_depth, tree_nesting}
 use Rattle.wsym_terms.specs.Trees.{level_size, size_of}
 use Rattle.wsym_terms.specs.declared.trees.BlockUses.{BlockUses}
@@ -15,7 +18,8 @@ use Rattle.node_elimination.specs.declared.cells.Cell.{Cell}
 use Rattle.node_elimination.specs.Cells.{node_cell}
 use Rattle.flow_tree.specs.FlowTables.{AreTables, AreTasks, AreTrees, cell_had, cell_in, child_by, leaf_cell, node_had, of_table, tree_in}
 use Rattle.flow_tree.specs.FlowTables.{tree_of_loop}
-use Rattle.flow_tree.specs.LevelNumbers.{IsLevelOf}
+use Rattle.flow_tree.specs.Descriptions.{IsTooLarge}
+use Rattle.flow_tree.specs.LevelNumbers.{IsLevelOf, large_in}
 use Rattle.flow_tree.specs.declared.nodes.LevelNodes.{LevelNodes}
 use Rattle.flow_tree.specs.declared.tables.LevelRows.{LevelRows}
 use Rattle.flow_tree.specs.declared.tables.LoopTree.{LoopTree}
@@ -78,8 +82,9 @@ module _ (n : Nest) (height : ℕ → ℕ) (rank : ℕ → ℕ → ℕ) (tasks :
 
 pub level_of : (n : Nest) (height : ℕ → ℕ) (rank : ℕ → ℕ → ℕ) (s : LevelNodes) (levels : List LevelRows) (rows : LevelRows)
     → AreTables s.count s.close s.leave s.nest.now levels s.blocks.now n → AreTasks n height rank → AreTrees n height s.trees.now
+    → ((d : ℕ) → set.contains nat_cmp s.large.now d ≡ true → IsTooLarge (tree_of_loop n height d))
     → slice_get levels s.level ≡ Some rows → IsLevelOf n height rank s rows
-level_of n height rank s levels rows h tasks made at =
+level_of n height rank s levels rows h tasks made past at =
     record {
       tasks = tasks;
       header = h.headers s.level;
@@ -94,8 +99,13 @@ level_of n height rank s levels rows h tasks made at =
       cells = λ v x e. cell_same n height rank tasks s.trees.now made s.blocks.now h.costs v x (slice_get s.blocks.now v)
           (child_by s.count s.nest.now s.level v) refl e
           ∙ ap node_cell (sym (node_is v));
+      large = λ v e. subst IsTooLarge (sym (node_is v)) (by_child v (child_by s.count s.nest.now s.level v) e);
     }
   where
+    by_child : (v : ℕ) (o : Option ℕ) → large_in s.large.now o ≡ true → IsTooLarge (from_table n height tasks.lower o v)
+    by_child v None e = absurd (false≢true e)
+    by_child v (Some d) e = past d e
+
     node_is : (v : ℕ) → node_tree n (suc (height s.level)) s.level v ≡ from_table n height tasks.lower
         (child_by s.count s.nest.now s.level v) v
     node_is v =

@@ -1,42 +1,44 @@
 //! The tree of a function, from the deepest loops up.
-ghost use Rattle.std.specs.Prelude.{◌≡◌, ◌<◌, ◌≤◌, ℕ, suc, IfOk, IsErrOf};
+ghost use Rattle.std.specs.Prelude.{◌≡◌, ◌<◌, ◌≤◌, ℕ, suc, IfOk, IsErrOf, OnOk};
 ghost use Rattle.tree_law.specs.Levels.{Nest, function_tree as tree_of_nest};
 ghost use Rattle.wsym_terms.specs.Trees.{size_of};
 ghost use Rattle.wsym_terms.specs.TreeNesting.{tree_nesting};
-ghost use Rattle.flow_tree.specs.Descriptions.{AreMade, AreUsed, HasNest, HasPast, IsDescribed, IsTooLarge};
+ghost use Rattle.flow_tree.specs.Descriptions.{AreLarge, AreMade, HasNest, IsDescribed, IsTooLarge};
 
 use crate::level::{loop_of, plan_between, trees_between};
 use crate::nodes::LevelNodes;
 use crate::tables::{FlowTables, LoopTree, header_of};
 use node_elimination::{DEEPEST, MOST, TreeRefusal};
 use std::alloc::{AllocError, Global};
+use std::collections::BTreeSet;
 use wsym_terms::Tree;
 
-/// Makes the tree of a loop, where those of the loops inside it are made.
+/// Makes the tree of a loop, where those of the loops inside it are made, or puts it among those that are too large.
 fn make_loop(
     alloc: Global,
     tables: &FlowTables,
     trees: &mut Vec<Option<LoopTree>>,
+    large: &mut BTreeSet<u32>,
     number: u32,
-) -> Result<(), TreeRefusal>
+) -> Result<(), AllocError>
     requires described { HasNest tables.now }
     requires old { AreMade tables.now trees.old.items }
-    requires some { 0 < number }
+    requires past { AreLarge tables.now large.old }
     ensures made { AreMade tables.now trees.new.items }
-    ensures large { IsErrOf result TreeRefusal.TooLarge → (n : Nest) (height : ℕ → ℕ) (rank : ℕ → ℕ → ℕ)
-        → IsDescribed tables.now n height rank → HasPast n height }
+    ensures large { OnOk result (AreLarge tables.now large.new) }
 {
     let Some(rows) = tables.levels.get(number as usize) else {
-        return Err(TreeRefusal::Memory);
+        return Err(AllocError);
     };
     if number as usize >= trees.len() {
-        return Err(TreeRefusal::Memory);
+        return Err(AllocError);
     }
     let nodes = LevelNodes {
         nest: tables.nest,
         count: tables.count,
         blocks: tables.blocks,
         trees: trees.as_slice(),
+        large: &*large,
         level: number,
         close: tables.close,
         leave: tables.leave,
@@ -46,7 +48,11 @@ fn make_loop(
             trees[number as usize] = Some(made);
             Ok(())
         }
-        Err(refusal) => Err(refusal),
+        Err(TreeRefusal::TooLarge) => {
+            large.insert(number)?;
+            Ok(())
+        }
+        Err(TreeRefusal::Memory) => Err(AllocError),
     }
 }
 
@@ -55,25 +61,23 @@ fn make_depth(
     alloc: Global,
     tables: &FlowTables,
     trees: &mut Vec<Option<LoopTree>>,
+    large: &mut BTreeSet<u32>,
     depth: u32,
-) -> Result<(), TreeRefusal>
+) -> Result<(), AllocError>
     requires described { HasNest tables.now }
     requires old { AreMade tables.now trees.old.items }
+    requires past { AreLarge tables.now large.old }
     ensures made { AreMade tables.now trees.new.items }
-    ensures large { IsErrOf result TreeRefusal.TooLarge → (n : Nest) (height : ℕ → ℕ) (rank : ℕ → ℕ → ℕ)
-        → IsDescribed tables.now n height rank → HasPast n height }
+    ensures large { OnOk result (AreLarge tables.now large.new) }
 {
     let mut number = 0u32;
     for info in tables.nest.loops.as_slice() {
         if number == u32::MAX {
-            return Err(TreeRefusal::Memory);
+            return Err(AllocError);
         }
         number += 1;
         if info.depth == depth {
-            match make_loop(alloc, tables, trees, number) {
-                Ok(()) => {}
-                Err(refusal) => return Err(refusal),
-            }
+            make_loop(alloc, tables, trees, large, number)?;
         }
     }
     Ok(())
@@ -96,9 +100,11 @@ fn whole(
     alloc: Global,
     tables: &FlowTables,
     trees: &[Option<LoopTree>],
+    large: &BTreeSet<u32>,
 ) -> Result<Tree, TreeRefusal>
     requires described { HasNest tables.now }
     requires made { AreMade tables.now trees.now }
+    requires past { AreLarge tables.now large.now }
     ensures exact { IfOk result (λ t. (n : Nest) (height : ℕ → ℕ) (rank : ℕ → ℕ → ℕ)
         → IsDescribed tables.now n height rank → (t ≡ tree_of_nest n (suc (height 0)))
         × (size_of t ≤ 500000) × (tree_nesting t ≤ 1000)) }
@@ -113,6 +119,7 @@ fn whole(
         count: tables.count,
         blocks: tables.blocks,
         trees,
+        large,
         level: 0,
         close: tables.close,
         leave: tables.leave,
@@ -138,25 +145,25 @@ fn whole(
 ///
 /// # Errors
 ///
-/// `TooLarge` exactly where the tree's size passes 500,000 or its nesting 1,000, in a nest whose loops lie on paths
-/// to ends of the levels round them; it comes before such a tree is made.
+/// `TooLarge` exactly where the tree's size passes 500,000 or its nesting 1,000; it comes before such a tree is made.
+/// A loop that isn't in the tree, since no path from its header leads out of the function, may be as large as it likes.
 pub fn function_tree(alloc: Global, tables: &FlowTables) -> Result<Tree, TreeRefusal>
     requires described { HasNest tables.now }
     ensures exact { IfOk result (λ t. (n : Nest) (height : ℕ → ℕ) (rank : ℕ → ℕ → ℕ)
         → IsDescribed tables.now n height rank → (t ≡ tree_of_nest n (suc (height 0)))
         × (size_of t ≤ 500000) × (tree_nesting t ≤ 1000)) }
     ensures large { IsErrOf result TreeRefusal.TooLarge → (n : Nest) (height : ℕ → ℕ) (rank : ℕ → ℕ → ℕ)
-        → IsDescribed tables.now n height rank → AreUsed n height → IsTooLarge (tree_of_nest n (suc (height 0))) }
+        → IsDescribed tables.now n height rank → IsTooLarge (tree_of_nest n (suc (height 0))) }
 {
     let Ok(none) = no_trees(alloc, tables) else {
         return Err(TreeRefusal::Memory);
     };
     let mut trees = none;
+    let mut large = BTreeSet::new(alloc);
     for step in 0..16u32 {
-        match make_depth(alloc, tables, &mut trees, 16 - step) {
-            Ok(()) => {}
-            Err(refusal) => return Err(refusal),
-        }
+        let Ok(()) = make_depth(alloc, tables, &mut trees, &mut large, 16 - step) else {
+            return Err(TreeRefusal::Memory);
+        };
     }
-    whole(alloc, tables, trees.as_slice())
+    whole(alloc, tables, trees.as_slice(), &large)
 }

@@ -20,7 +20,7 @@ use sqlite_items::{Boxed, Items};
 use std::alloc::{AllocError, Global};
 use wsym_terms::Tree;
 
-/// The plan of a level between two of its ends.
+/// The plan of a level between two of its ends; it is too large where one of its nodes is.
 pub fn plan_between(
     alloc: Global,
     nodes: &LevelNodes,
@@ -33,7 +33,10 @@ pub fn plan_between(
     ensures large { IsErrOf result TreeRefusal.TooLarge → (k : Task) (rank : ℕ → ℕ) → IsTask k rank
         → IsTaskOf nodes.now rows.now k → k.from ≡ from → k.to ≡ to → IsPast k }
 {
-    let Ok(cells) = nodes.cells(alloc) else {
+    if nodes.has_large(rows.nodes.as_slice()) {
+        return Err(TreeRefusal::TooLarge);
+    }
+    let Ok(cells) = nodes.cells(alloc, rows.nodes.as_slice()) else {
         return Err(TreeRefusal::Memory);
     };
     eliminate(

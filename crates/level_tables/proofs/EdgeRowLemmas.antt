@@ -11,7 +11,7 @@ use Rattle.elimination_plans.proofs.PlanStepLemmas.{ap2}
 use Rattle.node_elimination.proofs.CellChangeLemmas.{same_number}
 use Rattle.level_tables.specs.EdgeRows.{row_or}
 
-number_at : (a x : ℕ) → is_at (nat_cmp a) x ≡ nat_eq x a
+pub number_at : (a x : ℕ) → is_at (nat_cmp a) x ≡ nat_eq x a
 number_at a x = grind (arith, nat_tests)
 
 pub edge_added : (p e : ℕ) (old mid new : BTreeMap ℕ (List ℕ)) (list more : List ℕ) → list ≡ row_or (tree.get nat_cmp old p)

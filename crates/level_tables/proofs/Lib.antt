@@ -1,2 +1,10 @@
+pub mod BetweenLemmas
 pub mod EdgeRowLemmas
+pub mod FoundNodeLemmas
+pub mod LevelEdgeLemmas
+pub mod LevelNestLemmas
+pub mod LevelRowLemmas
+pub mod LoopNumberLemmas
+pub mod NestFactLemmas
 pub mod PlaceLemmas
+pub mod TakenNumberLemmas

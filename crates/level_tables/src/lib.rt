@@ -7,12 +7,14 @@ mod laws;
 mod links;
 mod paths;
 mod places;
+mod rows;
 mod trees;
 
 pub use blocks::blocks_of_loops;
 pub use edges::edges_of_level;
 pub use laws::places_are_of_loops;
-pub use links::EdgeRows;
-pub use paths::edges_on_paths;
+pub use links::{EdgeRows, ahead_of, back_of};
+pub use paths::{edges_on_paths, rows_between};
 pub use places::LevelPlaces;
+pub use rows::{levels_of, rows_of_level};
 pub use trees::tree;

@@ -11,7 +11,8 @@ pub returns-in-Err-clause-large : goal.returns-in-Err-clause-large
 returns-in-Err-clause-large c e n height rank h =
     let at = slice_get_read c.args.tables.now.levels.now _ 0 c.in-Some.rows.now refl c.in-Some.ensures.lookup.3.0 c.in-Some.ensures.lookup.1
     in
-    let l = level_of n height rank _ c.args.tables.now.levels.now c.in-Some.rows.now h.tables h.tasks (c.requires.made n height rank h) at
+    let l = level_of n height rank _ c.args.tables.now.levels.now c.in-Some.rows.now h.tables h.tasks (c.requires.made n height rank h)
+    (c.requires.past n height rank h) at
     in
     past_whole n height c.args.tables.now.leave (h.tables.leaves 0)
     (c.in-Err.ensures.large (other_ok _ _ e) (task_of n height 0 c.args.tables.now.leave) (rank 0)
@@ -22,7 +23,8 @@ pub returns-then-plan-ge-MOST-clause-large : goal.returns-then-plan-ge-MOST-clau
 returns-then-plan-ge-MOST-clause-large c e n height rank h =
     let at = slice_get_read c.args.tables.now.levels.now _ 0 c.in-Some.rows.now refl c.in-Some.ensures.lookup.3.0 c.in-Some.ensures.lookup.1
     in
-    let l = level_of n height rank _ c.args.tables.now.levels.now c.in-Some.rows.now h.tables h.tasks (c.requires.made n height rank h) at
+    let l = level_of n height rank _ c.args.tables.now.levels.now c.in-Some.rows.now h.tables h.tasks (c.requires.made n height rank h)
+    (c.requires.past n height rank h) at
     in
     let p = c.in-Ok.ensures.planned (task_of n height 0 c.args.tables.now.leave) (rank 0)
     (task_at n height rank _ c.in-Some.rows.now l c.args.tables.now.leave (at_leave n height rank _ c.in-Some.rows.now l))
@@ -33,7 +35,8 @@ pub returns-then-plan-ge-DEEPEST-clause-large : goal.returns-then-plan-ge-DEEPES
 returns-then-plan-ge-DEEPEST-clause-large c e n height rank h =
     let at = slice_get_read c.args.tables.now.levels.now _ 0 c.in-Some.rows.now refl c.in-Some.ensures.lookup.3.0 c.in-Some.ensures.lookup.1
     in
-    let l = level_of n height rank _ c.args.tables.now.levels.now c.in-Some.rows.now h.tables h.tasks (c.requires.made n height rank h) at
+    let l = level_of n height rank _ c.args.tables.now.levels.now c.in-Some.rows.now h.tables h.tasks (c.requires.made n height rank h)
+    (c.requires.past n height rank h) at
     in
     let p = c.in-Ok.ensures.planned (task_of n height 0 c.args.tables.now.leave) (rank 0)
     (task_at n height rank _ c.in-Some.rows.now l c.args.tables.now.leave (at_leave n height rank _ c.in-Some.rows.now l))
@@ -48,7 +51,8 @@ trees_between-requires c =
     let h = c.requires.described.3 in
     let at = slice_get_read c.args.tables.now.levels.now _ 0 c.in-Some.rows.now refl c.in-Some.ensures.lookup.3.0 c.in-Some.ensures.lookup.1
     in
-    let l = level_of n height rank _ c.args.tables.now.levels.now c.in-Some.rows.now h.tables h.tasks (c.requires.made n height rank h) at
+    let l = level_of n height rank _ c.args.tables.now.levels.now c.in-Some.rows.now h.tables h.tasks (c.requires.made n height rank h)
+    (c.requires.past n height rank h) at
     in
     let end = at_leave n height rank _ c.in-Some.rows.now l in
     record {
@@ -65,7 +69,8 @@ pub returns-clause-exact : goal.returns-clause-exact
 returns-clause-exact c n height rank h =
     let at = slice_get_read c.args.tables.now.levels.now _ 0 c.in-Some.rows.now refl c.in-Some.ensures.lookup.3.0 c.in-Some.ensures.lookup.1
     in
-    let l = level_of n height rank _ c.args.tables.now.levels.now c.in-Some.rows.now h.tables h.tasks (c.requires.made n height rank h) at
+    let l = level_of n height rank _ c.args.tables.now.levels.now c.in-Some.rows.now h.tables h.tasks (c.requires.made n height rank h)
+    (c.requires.past n height rank h) at
     in
     let end = at_leave n height rank _ c.in-Some.rows.now l in
     let from = l.header ∙ sym c.header_of-header.ensures in
