@@ -14,6 +14,7 @@ use Rattle.flow_tree.specs.FlowTables.{header_by}
 use Rattle.level_tables.specs.declared.places.LevelPlaces.{LevelPlaces}
 use Rattle.level_tables.specs.LevelPlaces.{and_edge, edges_from, edges_of_block, edges_of_blocks, edges_of_places, node_by, target_by}
 use Rattle.level_tables.specs.LevelPlaces.{within_level}
+use Rattle.level_tables.specs.ExactEdges.{IsExactEdge}
 use Rattle.level_tables.specs.LevelRows.{AreEdgesIn}
 use Rattle.level_tables.proofs.BetweenLemmas.{edge_cases, edge_here, edge_later}
 use Rattle.level_tables.proofs.PlaceLemmas.{same_header, same_node}
@@ -300,5 +301,49 @@ module _ (s : LevelPlaces) where
                 sym (o.1 ∙ (node_is flow.entry ∙ ap (λ c. node_in (loops_of flow s.nest.now) c flow.entry) zero)),
               ))
 
+      abbrev Exact : ℕ → ℕ → Type 0
+      Exact p q = IsExactEdge flow s.nest.now s.level p q
+
+      exact_of_block : (u p q : ℕ) → holds nat_eq u blocks ≡ true → Given u p q → Exact p q
+      exact_of_block u p q i (e, inr (r, f)) =
+          inr (inr (inl (u, sym (members u) ∙ i, inl r, sym (e ∙ node_is u), f ∙ leave)))
+      exact_of_block u p q i (e, inl (v, l, t)) = by_case (target_cases (N u) v q t)
+        where
+          by_case : Cases (N u) v q → Exact p q
+          by_case (inl (w, h, f)) =
+              inr (inl (u, v, sym (members u) ∙ i, sym (in_is v) ∙ w, edged u v i l, h ∙ head_is, sym (e ∙ node_is u), f ∙ close))
+          by_case (inr (inr (w, f))) =
+              inr (inr (inl (u, sym (members u) ∙ i, inr (v, edged u v i l, sym (in_is v) ∙ w), sym (e ∙ node_is u), f ∙ leave)))
+          by_case (inr (inl (w, h, a, f))) =
+              inl (record {
+                u = u;
+                v = v;
+                in_u = sym (members u) ∙ i;
+                in_v = sym (in_is v) ∙ w;
+                edge = edged u v i l;
+                no_turn = λ z. h (z ∙ sym head_is);
+                apart = λ z. a (node_is u ∙ (z ∙ sym (node_is v)));
+                from = sym (e ∙ node_is u);
+                to = sym (f ∙ node_is v);
+              })
+
+      exact : (p q : ℕ) → edges_of es p q ≡ true → Exact p q
+      exact p q h =
+          elim (in_either (started (nat_eq s.level 0)) (edges_of_blocks s flow blocks) p q h) as (λ _. Exact p q) [
+            | inl a ↦ by_test (nat_eq s.level 0) refl a
+            | inr b ↦ let r = blocks_out blocks p q b in exact_of_block r.0 p q r.1 r.2
+          ]
+        where
+          by_test : (b : Bool) → nat_eq s.level 0 ≡ b → edges_of (started b) p q ≡ true → Exact p q
+          by_test false z k = absurd (false≢true k)
+          by_test true z k =
+              let o = one_edge p q (H, N flow.entry) k in
+              let zero = eqb-true s.level 0 z in
+              inr (inr (inr (
+                zero,
+                o.0 ∙ (head_is ∙ ap (header_of flow s.nest.now) zero),
+                sym (o.1 ∙ (node_is flow.entry ∙ ap (λ c. node_in (loops_of flow s.nest.now) c flow.entry) zero)),
+              )))
+
       pub are_edges : AreEdgesIn flow s.nest.now s.level es
-      are_edges = record { real = real; turns = turns; goes = goes; leaves = leaves; first = first }
+      are_edges = record { real = real; turns = turns; goes = goes; leaves = leaves; exact = exact; first = first }

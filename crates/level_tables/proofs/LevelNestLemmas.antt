@@ -83,6 +83,7 @@ module _ (flow : Flow) (bounded : IsBounded flow) (reach : (b : ℕ) → b < flo
         turns = λ u v i j f h. absurd (false≢true (sym (levels.none c u e).1 ∙ i));
         goes = λ u v i j f h a. absurd (false≢true (sym (levels.none c u e).1 ∙ i));
         leaves = λ u i o. absurd (false≢true (sym (levels.none c u e).1 ∙ i));
+        exact = λ p q h. absurd (false≢true h);
         first = λ z. absurd ((levels.none c 0 e).0 z);
       }
 
@@ -318,7 +319,15 @@ module _ (flow : Flow) (bounded : IsBounded flow) (reach : (b : ℕ) → b < flo
   costs b u e = (ap base_or e, ap uses_or e)
 
   pub is_levels : IsLevelsOf flow n uses nest
-  is_levels = record { are = are; all = all; exact = exact; costs = costs }
+  is_levels =
+      record {
+        are = are;
+        all = all;
+        exact = exact;
+        edges = λ c p q h. (at c).level_is.are.exact p q h;
+        costs = costs;
+        others = λ b e. (ap base_or e, ap uses_or e);
+      }
 
   -- ---- tables and tasks
 

@@ -8,3 +8,4 @@ pub mod LoopNumberLemmas
 pub mod NestFactLemmas
 pub mod PlaceLemmas
 pub mod TakenNumberLemmas
+pub mod OneTreeLemmas

@@ -10,6 +10,7 @@ use Rattle.tree_law.specs.Ways.{IsIn}
 use Rattle.node_elimination.specs.GivenLevels.{edges_of}
 use Rattle.node_elimination.specs.LevelStates.{Rises}
 use Rattle.flow_tree.specs.declared.tables.LevelRows.{LevelRows}
+use Rattle.level_tables.specs.ExactEdges.{IsExactEdge}
 use Rattle.flow_tree.specs.declared.tables.PathRows.{PathRows}
 
 -- from a node on, and up to one, over any edges or none
@@ -37,6 +38,7 @@ pub record AreEdgesIn (flow : Flow) (n : LoopNest) (c : ℕ) (es : List (ℕ × 
   pub leaves : (u : ℕ) → within_by flow (around_of n) c u ≡ true → (flow.returns u ≡ true) ⊎ ((v : ℕ)
       × (edge flow u v ≡ true) × (within_by flow (around_of n) c v ≡ false))
       → edges_of es (node_in (loops_of flow n) c u) (flow.count + 2) ≡ true
+  pub exact : (p q : ℕ) → edges_of es p q ≡ true → IsExactEdge flow n c p q
   pub first : c ≡ 0 → edges_of es (header_of flow n 0) (node_in (loops_of flow n) 0 flow.entry) ≡ true
 
 -- the rows of a level say what lies on paths to its two ends, over the level's edges

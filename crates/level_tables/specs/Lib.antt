@@ -1,4 +1,5 @@
 pub mod EdgeRows
+pub mod ExactEdges
 pub mod FlowLevels
 pub mod LevelPlaces
 pub mod LevelRows

@@ -12,7 +12,7 @@ mod trees;
 
 pub use blocks::blocks_of_loops;
 pub use edges::edges_of_level;
-pub use laws::places_are_of_loops;
+pub use laws::{levels_have_one_tree, places_are_of_loops};
 pub use links::{EdgeRows, ahead_of, back_of};
 pub use paths::{edges_on_paths, rows_between};
 pub use places::LevelPlaces;
