@@ -1,16 +1,22 @@
 //! Levels whose nodes are all taken out: each line of the input has a graph without loops, each line of the output the
 //! size and the nesting of the trees that are left between its start and its end, and the order in which its blocks are
-//! taken out; or that they are too large.
+//! taken out; or that they are too large. Lines that begin with `tree` have a graph with loops, and get its tree.
 //!
 //! `NAME SIZE COUNT EDGE..`: the leaf of each block has the size, an edge is `FROM>TO`. Blocks are 0 to `COUNT` - 1;
 //! `COUNT` is the start and `COUNT` + 1 the end.
+//!
+//! `tree NAME COUNT ENTRY RETURNS EDGE..`: blocks are 0 to `COUNT` - 1, control enters at `ENTRY` and leaves from the
+//! blocks of `RETURNS`, between which there are commas. Each leaf has the base 1.
 #![tactic(auto)]
 
+mod graphs;
+
+use graphs::tree_text;
 use node_elimination::{Cell, LevelPlan, TreeRefusal, eliminate};
 use std::alloc::{AllocError, Global};
 
 /// The number that a word spells, or 0.
-fn number(word: Option<&str>) -> u32 {
+pub(crate) fn number(word: Option<&str>) -> u32 {
     word.map_or(0, |word| word.parse::<u32>().unwrap_or(0))
 }
 
@@ -82,8 +88,23 @@ fn plan_text(alloc: Global, plan: &LevelPlan) -> anyhow::Result<String> {
     Ok(text)
 }
 
+/// The line of the output for a graph with loops.
+fn tree_answer(alloc: Global, line: &str) -> anyhow::Result<String> {
+    let mut words = line.splitn(5, ' ');
+    let name = words.next().unwrap_or("");
+    let count = number(words.next());
+    let entry = number(words.next());
+    let returns = words.next().unwrap_or("");
+    let edges = words.next().unwrap_or("");
+    let text = tree_text(alloc, count, entry, returns, edges)?;
+    Ok(format!(in alloc; "{name}: {text}")?)
+}
+
 /// The line of the output for a line of the input.
 fn answer(alloc: Global, line: &str) -> anyhow::Result<String> {
+    if let Some(graph) = line.strip_prefix("tree ") {
+        return tree_answer(alloc, graph);
+    }
     let mut words = line.splitn(4, ' ');
     let name = words.next().unwrap_or("");
     let size = u64::from(number(words.next()));
