@@ -1,2 +1,3 @@
+pub mod AgreementLemmas
 pub mod RefusalLemmas
 pub mod ReportLemmas

@@ -6,9 +6,11 @@
 #![tactic(auto)]
 
 mod analysis;
+mod laws;
 mod refusals;
 mod reports;
 mod structures;
 
 pub use analysis::analyse_function;
+pub use laws::analyses_agree;
 pub use refusals::AnalysisRefusal;
