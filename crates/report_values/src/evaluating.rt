@@ -19,13 +19,13 @@ use wsym_terms::Cost;
 /// below 2^127, Beyond where it is finite and greater, Unbounded where it is infinite.
 ///
 /// The loops' bounds have atoms over the report's parameters: each at most 13 of them, numbers of a magnitude of at
-/// most 2^90, and a divisor of at least 1. That is so in each report that is read.
+/// most 2^90, and a divisor of at least 1. That is so in each report that is read (`read_reports_fit`).
 ///
 /// # Errors
 ///
 /// The first value whose name is no parameter's or stands before it, or that is out of its parameter's range. Where
-/// there is none, the first parameter without a value. Memory where it is refused; also where the formula's table has
-/// further nodes whose constants have 2^63 counts or more, which no report that is read has.
+/// there is none, the first parameter without a value. Memory where it is refused, or where a node of the formula's
+/// table stands for a term whose constants have 2^63 counts or more together.
 #[tactic(auto, using(crate::proofs::NamedAndBound::ranged, crate::proofs::NamedAndBound::as_many))]
 pub fn evaluate(alloc: Global, report: &Report, values: &[NamedValue]) -> Result<Cost, ValueRefusal>
     requires { HasFittingBounds report.now }

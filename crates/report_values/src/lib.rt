@@ -7,9 +7,11 @@
 
 mod bounds;
 mod evaluating;
+mod laws;
 mod naming;
 mod writing;
 
 pub use evaluating::evaluate;
+pub use laws::read_reports_fit;
 pub use naming::ValueRefusal;
 pub use writing::value_line;

@@ -6,6 +6,7 @@
 //! ```text
 //! file NAME WORD..               an executable: its code, symbols and headers (`Executable::add`)
 //! text NAME TEXT                 a file of a text
+//! lines NAME TEXT                a file of lines, with `/` at the end of each
 //! run PROBES FILE ENTRY rK=VALUE STEPS..
 //!                                how runs end, one after another on one machine with those steps each, from a stack of
 //!                                4096 bytes below 0x20000000, and what each probe has counted then
@@ -46,6 +47,18 @@ fn executable_file(alloc: Global, name: &str, words: &str) -> Result<ShelfFile, 
     Ok(ShelfFile {
         name: String::from_str(alloc, name)?,
         bytes: file.bytes(alloc)?,
+    })
+}
+
+/// A file of lines, which stand one after another in the text with `/` at the end of each.
+fn lines_file(alloc: Global, name: &str, text: &str) -> Result<ShelfFile, AllocError> {
+    let mut bytes = Vec::new(alloc);
+    for byte in text.as_bytes() {
+        bytes.push(if *byte == b'/' { b'\n' } else { *byte })?;
+    }
+    Ok(ShelfFile {
+        name: String::from_str(alloc, name)?,
+        bytes,
     })
 }
 
@@ -150,6 +163,7 @@ fn main(rt: HostRuntime) -> anyhow::Result<()> {
         match call {
             "file" => files.push(executable_file(alloc, first, rest)?)?,
             "text" => files.push(text_file(alloc, first, rest)?)?,
+            "lines" => files.push(lines_file(alloc, first, rest)?)?,
             "run" | "command" => probed_line(rt, line, files.as_slice(), call, given)?,
             "faults" => faults_line(rt, line, files.as_slice(), given)?,
             "cuts" => cuts_line(rt, line, files.as_slice(), given)?,

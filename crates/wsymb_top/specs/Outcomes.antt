@@ -1,97 +1,110 @@
 -- Which outcome a call of the program has, by its words, the files that they name and its probes.
 use Rattle.std.specs.Prelude.{◌≡◌, ◌≢◌, ℕ, ◌⊎◌, Bool, true, false, List, [], ◌∷◌, Option, Some, None, Result, Ok, Err}
-use Rattle.std.specs.List.{list_any}
-use Rattle.wsym_io.specs.Io.{File, Rose, IfTold, file_bytes}
-use Rattle.arm_isa.specs.declared.instruction.Insn.{Insn}
+use Rattle.wsym_io.specs.Io.{File}
 use Rattle.command_words.specs.Commands.{command_of, files_of}
+use Rattle.command_words.specs.declared.analyses.AnalysisSetup.{AnalysisSetup}
 use Rattle.command_words.specs.declared.commands.Command.{Command}
-use Rattle.command_words.specs.declared.commands.Command.TheVariants.{Analyse, Run}
+use Rattle.command_words.specs.declared.commands.Command.TheVariants.{Analyse, Eval, Run}
 use Rattle.command_words.specs.declared.options.Setup.{Setup}
-use Rattle.fetch_timing.specs.declared.timing.Timing.{Timing}
-use Rattle.elf32_image.specs.Parts.{ImageValue}
+use Rattle.command_words.specs.declared.valuations.NamedValue.{NamedValue}
+use Rattle.input_files.specs.Inputs.{AreRead, HasRisen, is_any_long}
+use Rattle.input_files.specs.declared.reading.InputRefusal.TheVariants as input
 use Rattle.machine_probe.specs.Weights.{Standing}
+use Rattle.wcet_core.specs.Analyses.{IsAnalysed}
+use Rattle.wcet_core.specs.Refusals.{IsRefusedAnalysis}
+use Rattle.wcet_core.specs.declared.refusals.AnalysisRefusal.{AnalysisRefusal}
 use Rattle.function_runs.specs.declared.refusals.RunRefusal.{RunRefusal}
-use Rattle.function_runs.specs.declared.refusals.RunRefusal.TheVariants as run
 use Rattle.function_runs.specs.Causes.{IsRefused}
-use Rattle.function_runs.specs.Lines.{result_text}
-use Rattle.function_runs.specs.Results.{FunctionRun, IsResult}
-use Rattle.report_text.specs.declared.report.Report.{Report}
-use Rattle.report_text.specs.Lines.{text_of}
-use Rattle.wsymb_top.specs.declared.inputs.Inputs.{Inputs}
+use Rattle.function_runs.specs.Results.{FunctionRun, IsResultText}
+use Rattle.report_lines.specs.declared.report.Report.{Report}
+use Rattle.report_lines.specs.Grammar.{text_of}
+use Rattle.whole_reports.specs.Reports.{report_of}
+use Rattle.report_values.specs.Evaluations.{IsValueAt}
+use Rattle.report_values.specs.Lines.{value_text}
+use Rattle.report_values.specs.Naming.{named_values}
+use Rattle.wsym_terms.specs.declared.costs.Cost.{Cost}
 use Rattle.wsymb_top.specs.declared.jobs.Job.{Job}
 use Rattle.wsymb_top.specs.declared.refusals.Refusal.{Refusal}
 use Rattle.wsymb_top.specs.declared.refusals.Refusal.TheVariants as refusal
-use Rattle.wsymb_top.specs.Headline.{IsKept}
-use Rattle.wsymb_top.specs.Jobs.{AreInputs, is_any_long, is_long, job_of, task_of}
-use Rattle.wsymb_top.specs.Refusals.{line_of, run_refusal, status_of}
-use Rattle.wsymb_top.specs.Reports.{IsOfWalk}
-use Rattle.wsymb_top.specs.Straight.{IsCrooked, IsOutsideAt, IsUnknownAt}
+use Rattle.wsymb_top.specs.Jobs.{file_at, job_of}
+use Rattle.wsymb_top.specs.Refusals.{IsMemory, line_of, status_of}
 
--- What comes of a call: a refusal, a report, or a run that returned, with its steps, its cycles and the probes' tallies.
+-- What comes of a call: one line of refusal, or the text of an answer.
 pub data Outcome : Type 0 where
   Refuses : (why : Refusal) → Outcome
-  Prints : (report : Report) → Outcome
-  Returns : (steps cycles : ℕ) (tallies : List ℕ) → Outcome
+  Answers : (text : List ℕ) → Outcome
 
 abbrev pub outcome_status : Outcome → ℕ
 outcome_status (Refuses why) = status_of why
-outcome_status (Prints report) = 0
-outcome_status (Returns steps cycles tallies) = 0
+outcome_status (Answers text) = 0
 
 abbrev pub outcome_text : Outcome → List ℕ
 outcome_text (Refuses why) = line_of why
-outcome_text (Prints report) = text_of report
-outcome_text (Returns steps cycles tallies) = result_text steps cycles tallies
+outcome_text (Answers text) = text
 
--- the bytes of stack that a function may use
-abbrev pub stack_size : ℕ
-stack_size = 4096
+-- the text is that of a report of the function of a job
+abbrev pub IsReportText : AnalysisSetup → Job → List ℕ → Type 0
+IsReportText setup job text = (report : Report)
+    × IsAnalysed job.image job.timing job.entry setup.stack setup.params report × (text ≡ text_of report)
 
--- why the function at an address of an image has no report
-pub data IsRefusedByWalk (image : ImageValue) (entry : ℕ) (why : Refusal) : Type 0 where
-  Unknown : (a : ℕ) → (is : why ≡ refusal.UnknownWord a) → (cause : IsUnknownAt image entry a) → IsRefusedByWalk image entry why
-  Outside : (a : ℕ) → (is : why ≡ refusal.OutsideCode a) → (cause : IsOutsideAt image entry a) → IsRefusedByWalk image entry why
-  Crooked : (is : why ≡ refusal.NotStraight) → (cause : IsCrooked image entry) → IsRefusedByWalk image entry why
-
--- an analysis gives a report of the function that keeps its promises, or there is a cause why not
-abbrev pub IsOfAnalysis : Job → Outcome → Type 0
-IsOfAnalysis job (Prints report) = IsKept job.image job.timing job.entry stack_size report
-IsOfAnalysis job (Refuses why) = IsRefusedByWalk job.image job.entry why
-IsOfAnalysis job (Returns steps cycles tallies) = ⊥
+-- an analysis gives the report of the function, or there is a cause why not
+abbrev pub IsOfAnalysis : AnalysisSetup → Job → Outcome → Type 0
+IsOfAnalysis setup job (Answers text) = IsReportText setup job text
+IsOfAnalysis setup job (Refuses why) = (cause : AnalysisRefusal)
+    × IsRefusedAnalysis job.image job.timing job.entry setup.stack cause × (why ≡ refusal.Analysis cause)
+    × (IsMemory why → ⊥)
 
 -- the run of the function of a job that a setup asks for, which these probes watch
-abbrev pub running : Job → Setup → List Standing → FunctionRun
-running job setup probes = record { image = job.image; timing = job.timing; entry = job.entry; setup = setup; probes = probes }
-
--- why a run has no result
-abbrev pub IsRefusedByRun : FunctionRun → Refusal → Type 0
-IsRefusedByRun r why = (cause : RunRefusal) × IsRefused r cause × (cause ≢ run.Memory) × (why ≡ run_refusal r.setup.steps cause)
+abbrev pub running : Setup → List Standing → Job → FunctionRun
+running setup probes job =
+    record { image = job.image; timing = job.timing; entry = job.entry; setup = setup; probes = probes }
 
 -- a run returns, or there is a cause why not
 abbrev pub IsOfRun : FunctionRun → Outcome → Type 0
-IsOfRun r (Returns steps cycles tallies) = IsResult r steps cycles tallies
-IsOfRun r (Refuses why) = IsRefusedByRun r why
-IsOfRun r (Prints report) = ⊥
+IsOfRun r (Answers text) = IsResultText r text
+IsOfRun r (Refuses why) = (cause : RunRefusal) × IsRefused r cause × (why ≡ refusal.Run cause r.setup.steps)
+    × (IsMemory why → ⊥)
 
-abbrev pub IsOfJob : Command → List Standing → Job → Outcome → Type 0
-IsOfJob (Analyse task) probes job o = IsOfAnalysis job o
-IsOfJob (Run task setup) probes job o = IsOfRun (running job setup probes) o
+-- the line of the value of a report's formula at values by name
+abbrev pub IsValueText : Report → List NamedValue → List ℕ → Type 0
+IsValueText report values text = (cost : Cost) × IsValueAt report values cost × (text ≡ value_text cost)
 
-abbrev pub IsOfLoaded : Command → List Standing → Result Job Refusal → Outcome → Type 0
-IsOfLoaded command probes (Ok job) o = IsOfJob command probes job o
-IsOfLoaded command probes (Err why) o = o ≡ Refuses why
+-- the name at fault of some values
+abbrev pub IsBadValue : Report → List NamedValue → Refusal → Type 0
+IsBadValue report values why =
+    (name : List ℕ) × (named_values report.params values ≡ Err name) × (why ≡ refusal.BadValue name)
 
-abbrev pub IsOfLength : Bool → Command → List Standing → Inputs → Outcome → Type 0
-IsOfLength true command probes inputs o = o ≡ Refuses refusal.FileTooLong
-IsOfLength false command probes inputs o = IsOfLoaded command probes (job_of (task_of command).function inputs) o
+-- what comes of evaluating what was read: a report, or the number of the first bad line
+abbrev pub IsOfReading : List NamedValue → Result Report ℕ → Outcome → Type 0
+IsOfReading values (Err line) o = o ≡ Refuses (refusal.BadReport line)
+IsOfReading values (Ok report) (Answers text) = IsValueText report values text
+IsOfReading values (Ok report) (Refuses why) = IsBadValue report values why
 
--- The outcome of a command whose files hold this. The causes of refusals are tested in this order: a file is too long; the
--- files hold no job; and the command's own.
-abbrev pub IsOfInputs : Command → List Standing → Inputs → Outcome → Type 0
-IsOfInputs command probes inputs o = IsOfLength (is_any_long inputs) command probes inputs o
+-- the value of the formula of the report whose text these bytes are, or there is a cause why not
+abbrev pub IsOfValue : List NamedValue → List ℕ → Outcome → Type 0
+IsOfValue values bytes o = IsOfReading values (report_of bytes) o
 
--- What a call has and sees: its words, where its probes stand, what the shelf says, and the shelf's counts of faults by name
--- before and after the call.
+-- the outcome of a command that has a job
+abbrev pub IsOfLoaded : (Job → Outcome → Type 0) → Result Job Refusal → Outcome → Type 0
+IsOfLoaded P (Ok job) o = P job o
+IsOfLoaded P (Err why) o = o ≡ Refuses why
+
+abbrev pub IsOfBytes : Command → List Standing → List (List ℕ) → Outcome → Type 0
+IsOfBytes (Analyse task setup) probes files o = IsOfLoaded (IsOfAnalysis setup) (job_of task files) o
+IsOfBytes (Run task setup) probes files o = IsOfLoaded (λ job. IsOfRun (running setup probes job)) (job_of task files) o
+IsOfBytes (Eval valuation) probes files o = IsOfValue valuation.values (file_at files 0) o
+
+abbrev pub IsOfLength : Bool → Command → List Standing → List (List ℕ) → Outcome → Type 0
+IsOfLength true command probes files o = o ≡ Refuses (refusal.Input input.TooLong)
+IsOfLength false command probes files o = IsOfBytes command probes files o
+
+-- The outcome of a command whose files hold this. The causes of refusals are tested in this order: a file is too long,
+-- and then the command's own.
+abbrev pub IsOfFiles : Command → List Standing → List (List ℕ) → Outcome → Type 0
+IsOfFiles command probes files o = IsOfLength (is_any_long files) command probes files o
+
+-- What a call has and sees: its words, where its probes stand, what the shelf says, and the shelf's counts of faults by
+-- name before and after the call.
 pub record Call : Type 0 where
   pub words : List (List ℕ)
   pub probes : List Standing
@@ -99,9 +112,16 @@ pub record Call : Type 0 where
   pub before : List ℕ → ℕ
   pub after : List ℕ → ℕ
 
+-- the call of these words, by what a shelf says and counts before and after
+abbrev pub call_of : {S : Type 0} → (S → Option (List File)) → (S → List ℕ → ℕ) → List (List ℕ) → List Standing → S → S
+    → Call
+call_of content faults words probes old new =
+    record { words = words; probes = probes; content = content old; before = faults old; after = faults new }
+
 -- the outcome of a command over what was read for it
 abbrev pub IsOfCommand : Option (List File) → List Standing → Command → Outcome → Type 0
-IsOfCommand content probes command o = (inputs : Inputs) × AreInputs content (task_of command) inputs × IsOfInputs command probes inputs o
+IsOfCommand content probes command o =
+    (files : List (List ℕ)) × AreRead content (files_of command) files × IsOfFiles command probes files o
 
 abbrev pub IsOfWords : Option (List File) → List Standing → Option Command → Outcome → Type 0
 IsOfWords content probes None o = o ≡ Refuses refusal.Usage
@@ -111,53 +131,25 @@ IsOfWords content probes (Some command) o = IsOfCommand content probes command o
 abbrev pub IsDecided : Call → Outcome → Type 0
 IsDecided call o = IsOfWords call.content call.probes (command_of call.words) o
 
--- the count of faults rose for one of these files
-abbrev pub HasRisen : (List ℕ → ℕ) → (List ℕ → ℕ) → List (List ℕ) → Type 0
-HasRisen before after [] = ⊥
-HasRisen before after (name ∷ names) = Rose (before name) (after name) ⊎ HasRisen before after names
-
 -- the words are right, and the count of faults rose for a file that they name
 abbrev pub HasReadFault : Call → Type 0
-HasReadFault call = (command : Command) × (command_of call.words ≡ Some command) × HasRisen call.before call.after (files_of command)
+HasReadFault call = (command : Command) × (command_of call.words ≡ Some command)
+    × HasRisen call.content call.before call.after (files_of command)
 
 -- An outcome is due for a call: memory may be refused at any place, a file can't be read, or else it is decided.
 pub data IsDue (call : Call) (o : Outcome) : Type 0 where
-  OutOfMemory : (is : o ≡ Refuses refusal.Memory) → IsDue call o
-  Unreadable : (is : o ≡ Refuses refusal.ReadFault) → (fault : HasReadFault call) → IsDue call o
+  OutOfMemory : (why : Refusal) → (is : o ≡ Refuses why) → (memory : IsMemory why) → IsDue call o
+  Unreadable : (is : o ≡ Refuses (refusal.Input input.ReadFault)) → (fault : HasReadFault call) → IsDue call o
   Decided : (decided : IsDecided call o) → IsDue call o
-
--- an outcome that is no refusal
-abbrev pub IsAnswer : Outcome → Type 0
-IsAnswer (Refuses why) = ⊥
-IsAnswer (Prints report) = Unit {0}
-IsAnswer (Returns steps cycles tallies) = Unit {0}
-
--- the text of an answer of which the fact holds
-abbrev pub IsTextOf : (Outcome → Type 0) → List ℕ → Type 0
-IsTextOf P text = (o : Outcome) × P o × IsAnswer o × (text ≡ outcome_text o)
 
 -- memory was refused, or the fact holds of the refusal
 abbrev pub IsRefusal : (Outcome → Type 0) → Refusal → Type 0
-IsRefusal P why = (why ≡ refusal.Memory) ⊎ P (Refuses why)
-
--- one of these files is longer than the greatest length
-abbrev pub is_any_file_long : List File → List (List ℕ) → Bool
-is_any_file_long files names = list_any (λ name. is_long (file_bytes files name)) names
-
--- why one of these files could not be read: memory, a fault, or that it is too long
-abbrev pub IsUnread : Option (List File) → (List ℕ → ℕ) → (List ℕ → ℕ) → List (List ℕ) → Refusal → Type 0
-IsUnread content before after names why =
-    (why ≡ refusal.Memory)
-    ⊎ (((why ≡ refusal.ReadFault) × HasRisen before after names)
-    ⊎ ((why ≡ refusal.FileTooLong) × IfTold content (λ files. is_any_file_long files names ≡ true)))
+IsRefusal P why = IsMemory why ⊎ P (Refuses why)
 
 -- why a command has no text
-abbrev pub IsUnanswered : Option (List File) → (List ℕ → ℕ) → (List ℕ → ℕ) → List Standing → Command → Refusal → Type 0
+abbrev pub IsUnanswered : Option (List File) → (List ℕ → ℕ) → (List ℕ → ℕ) → List Standing → Command → Refusal
+    → Type 0
 IsUnanswered content before after probes command why =
-    (why ≡ refusal.Memory)
-    ⊎ (((why ≡ refusal.ReadFault) × HasRisen before after (files_of command))
+    IsMemory why
+    ⊎ (((why ≡ refusal.Input input.ReadFault) × HasRisen content before after (files_of command))
     ⊎ IsOfCommand content probes command (Refuses why))
-
--- the text is that of a report of these instructions
-abbrev pub IsOfInsns : Timing → ℕ → List Insn → List ℕ → Type 0
-IsOfInsns t entry insns text = (report : Report) × IsOfWalk t entry stack_size insns report × (text ≡ text_of report)

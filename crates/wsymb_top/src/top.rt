@@ -4,17 +4,22 @@ ghost use Rattle.std.specs.Prelude.{◌≡◌, ◌≤◌, ◌<◌, ◌^◌, ◌�
 ghost use Rattle.wsym_io.specs.Io.{IfTold, Rose, appended};
 ghost use Rattle.command_words.specs.Commands.{command_of};
 ghost use Rattle.machine_probe.specs.Weights.{AreReady};
-ghost use Rattle.wsymb_top.specs.Answers.{IsAnswered, IsGiven, IsOnly, Writing};
-ghost use Rattle.wsymb_top.specs.Outcomes.{Call, HasReadFault, IsDecided, IsDue, IsTextOf, Outcome};
+ghost use Rattle.wsymb_top.specs.Answers.{IsAnswered, IsGiven, IsOnly, writing_of};
+ghost use Rattle.wsymb_top.specs.Outcomes.{HasReadFault, IsDecided, IsDue, Outcome, call_of};
 ghost use Rattle.wsymb_top.specs.Refusals.{line_of};
 
 use crate::commands::answer_command;
 use crate::delivery::deliver;
-use crate::refusals::{ANSWERED, Refusal, Status, refuse};
+use crate::refusal_lines::refuse;
+use crate::refusals::Refusal;
+use crate::statuses::{ANSWERED, Status};
 use command_words::read_command;
 use function_runs::results_agree;
+use input_files::InputRefusal;
 use machine_probe::Probe;
 use std::alloc::Global;
+use wcet_core::analyses_agree;
+use whole_reports::reports_are_read;
 use wsym_io::{Shelf, Sink};
 
 /// Runs the command that the words name, reads its files from the shelf, and writes the answer or one line of
@@ -36,25 +41,27 @@ pub fn wsymb<F: Shelf, K: Sink>(
 
     // An outcome that is due for the words, the files and the probes is delivered.
     ensures answered { IsAnswered
-        (record { words = map string_bytes words.now.items; probes = map standing probes.items; content = F.content shelf.old; before = F.faults shelf.old; after = F.faults shelf.new })
-        (record { contents = K.contents out.old; new = K.contents out.new; before = K.faults out.old; after = K.faults out.new }) result }
+        (call_of F.content F.faults (map string_bytes words.now.items) (map standing probes.items) shelf.old shelf.new)
+        (writing_of K.contents K.faults out.old out.new) result }
 
     // And no other: but for 1, 3 and 4 the words, the files' bytes and the probes decide the status.
     ensures only { IfTold (F.content shelf.old) (λ files. IsOnly
-        (record { words = map string_bytes words.now.items; probes = map standing probes.items; content = F.content shelf.old; before = F.faults shelf.old; after = F.faults shelf.new }) result) }
+        (call_of F.content F.faults (map string_bytes words.now.items) (map standing probes.items) shelf.old shelf.new) result) }
 
     // What an answer says: the report of an analysis keeps its promises, and a run is one of the machine.
     ensures given { result ≡ 0 → IsGiven
-        (record { words = map string_bytes words.now.items; probes = map standing probes.items; content = F.content shelf.old; before = F.faults shelf.old; after = F.faults shelf.new })
-        (record { contents = K.contents out.old; new = K.contents out.new; before = K.faults out.old; after = K.faults out.new }) }
+        (call_of F.content F.faults (map string_bytes words.now.items) (map standing probes.items) shelf.old shelf.new)
+        (writing_of K.contents K.faults out.old out.new) }
 
     // What some statuses say, and what is written with them.
-    ensures usage { result ≡ 2 → (command_of (map string_bytes words.now.items) ≡ None) × (K.contents out.new ≡ appended (K.contents out.old) (line_of Refusal.Usage)) }
+    ensures usage { result ≡ 2 → (command_of (map string_bytes words.now.items) ≡ None)
+        × (K.contents out.new ≡ appended (K.contents out.old) (line_of Refusal.Usage)) }
     ensures read_fault { result ≡ 3 → HasReadFault
-        (record { words = map string_bytes words.now.items; probes = map standing probes.items; content = F.content shelf.old; before = F.faults shelf.old; after = F.faults shelf.new })
-        × (K.contents out.new ≡ appended (K.contents out.old) (line_of Refusal.ReadFault)) }
+        (call_of F.content F.faults (map string_bytes words.now.items) (map standing probes.items) shelf.old shelf.new)
+        × (K.contents out.new ≡ appended (K.contents out.old) (line_of (Refusal.Input InputRefusal.ReadFault))) }
     ensures write_fault { result ≡ 4 → Rose (K.faults out.old) (K.faults out.new) }
-    ensures wrong_words { command_of (map string_bytes words.now.items) ≡ None → (result ≡ 2) ⊎ ((result ≡ 4) ⊎ (result ≡ 1)) }
+    ensures wrong_words { command_of (map string_bytes words.now.items) ≡ None
+        → (result ≡ 2) ⊎ ((result ≡ 4) ⊎ (result ≡ 1)) }
 
     // What stays, and what never falls.
     ensures content { F.content shelf.new ≡ F.content shelf.old }
@@ -62,10 +69,12 @@ pub fn wsymb<F: Shelf, K: Sink>(
     ensures sink_later { K.faults out.old ≤ K.faults out.new }
 {
     results_agree();
+    analyses_agree();
+    reports_are_read();
     let mut probes = probes;
     match answer(alloc, words.as_slice(), shelf, &mut probes) {
         Ok(text) => deliver(out, text.as_slice(), ANSWERED),
-        Err(why) => refuse(alloc, out, why),
+        Err(why) => refuse(alloc, out, &why),
     }
 }
 
@@ -79,15 +88,17 @@ fn answer<F: Shelf>(
     requires few { length probes.old.items < 2 ^ 32 }
     requires tallies { AreReady (map standing probes.old.items) }
 
-    ensures text { IfOk result (λ text. IsTextOf (IsDecided
-        (record { words = map string_bytes words.now; probes = map standing probes.old.items; content = F.content shelf.old; before = F.faults shelf.old; after = F.faults shelf.new })) text.items) }
+    ensures text { IfOk result (λ text. IsDecided
+        (call_of F.content F.faults (map string_bytes words.now) (map standing probes.old.items) shelf.old shelf.new)
+        (Outcome.Answers text.items)) }
     ensures refused { IfErr result (λ why. IsDue
-        (record { words = map string_bytes words.now; probes = map standing probes.old.items; content = F.content shelf.old; before = F.faults shelf.old; after = F.faults shelf.new }) (Outcome.Refuses why)) }
+        (call_of F.content F.faults (map string_bytes words.now) (map standing probes.old.items) shelf.old shelf.new)
+        (Outcome.Refuses why)) }
     ensures content { F.content shelf.new ≡ F.content shelf.old }
     ensures later { (name : List ℕ) → F.faults shelf.old name ≤ F.faults shelf.new name }
 {
     match read_command(alloc, words) {
-        Ok(Some(command)) => answer_command(alloc, &command, shelf, probes),
+        Ok(Some(command)) => answer_command(alloc, command, shelf, probes),
         Ok(None) => Err(Refusal::Usage),
         Err(_) => Err(Refusal::Memory),
     }

@@ -1,6 +1,0 @@
-use Rattle.std.proofs.Common.{◌≡◌, ◌++◌, string_bytes, drop}
-use Rattle.report_text.specs.Elements.{further_runs}
-use Rattle.report_text.proofs.formulas.push_further_runs.Given as goal
-
-abbrev pub invariant-loop-run : goal.invariant-loop-run
-invariant-loop-run l = string_bytes l.out ++ further_runs (drop l.run-index l.runs) ≡ string_bytes l.fn.out ++ further_runs l.runs

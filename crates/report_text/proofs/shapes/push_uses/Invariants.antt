@@ -1,6 +1,0 @@
-use Rattle.std.proofs.Common.{◌≡◌, ◌++◌, string_bytes, drop}
-use Rattle.report_text.specs.Elements.{spaced, use_text}
-use Rattle.report_text.proofs.shapes.push_uses.Given as goal
-
-abbrev pub invariant-loop-used : goal.invariant-loop-used
-invariant-loop-used l = string_bytes l.out ++ spaced use_text (drop l.used-index l.uses) ≡ string_bytes l.fn.out ++ spaced use_text l.uses

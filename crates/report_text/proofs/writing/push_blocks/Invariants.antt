@@ -1,6 +1,0 @@
-use Rattle.std.proofs.Common.{◌≡◌, ◌++◌, [], string_bytes, drop}
-use Rattle.report_text.specs.Lines.{lines_text, block_lines}
-use Rattle.report_text.proofs.writing.push_blocks.Given as goal
-
-abbrev pub invariant-loop-number : goal.invariant-loop-number
-invariant-loop-number l = string_bytes l.out ++ lines_text [] (block_lines l.number (drop l.number l.blocks)) ≡ string_bytes l.fn.out ++ lines_text [] (block_lines 0 l.blocks)

@@ -1,6 +1,0 @@
-use Rattle.std.proofs.Common.{◌≡◌, ◌+◌, ◌++◌, string_bytes, drop}
-use Rattle.report_text.specs.Lines.{lines_text, loop_lines}
-use Rattle.report_text.proofs.writing.push_loops.Given as goal
-
-abbrev pub invariant-loop-place : goal.invariant-loop-place
-invariant-loop-place l = string_bytes l.out ++ lines_text l.params (loop_lines (l.place + 1) (drop l.place l.loops)) ≡ string_bytes l.fn.out ++ lines_text l.params (loop_lines 1 l.loops)
