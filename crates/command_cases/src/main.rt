@@ -43,7 +43,11 @@ fn push_setup(out: &mut String, setup: &Setup) -> Result<(), AllocError> {
 fn push_analysis(out: &mut String, setup: &AnalysisSetup) -> Result<(), AllocError> {
     for each in setup.params.as_slice() {
         let name = each.name.as_str();
-        write!(out, " {name} r{} {} to {}", each.register, each.low, each.high)?;
+        write!(
+            out,
+            " {name} r{} {} to {}",
+            each.register, each.low, each.high
+        )?;
     }
     write!(out, " stack {}", setup.stack)
 }
